@@ -1,0 +1,52 @@
+// What a call says when it says no: document 01's numbered refusals, each with its place.
+ghost use mathlib.Core.Path.{_≡_};
+ghost use Rattle.answers.specs.Refusals.{numberOf, placeOf};
+
+// A refusal whose place the table gives as 0 always carries none.
+pub enum Refusal {
+    TooFew(usize),
+    TooMany(usize),
+    SizesDiffer,
+    NotClosed(usize),
+    BadScale,
+    BeyondLimit(usize),
+    BadHeight,
+    NoRoom,
+    Damaged(usize),
+}
+
+impl Refusal {
+    // 01's number of the refusal.
+    pub fn number(self) -> u32
+        ensures { λ r. ⌜ r ≡ numberOf self ⌝ }
+    {
+        match self {
+            Refusal::TooFew(_) => 1,
+            Refusal::TooMany(_) => 2,
+            Refusal::SizesDiffer => 3,
+            Refusal::NotClosed(_) => 4,
+            Refusal::BadScale => 5,
+            Refusal::BeyondLimit(_) => 6,
+            Refusal::BadHeight => 7,
+            Refusal::NoRoom => 8,
+            Refusal::Damaged(_) => 9,
+        }
+    }
+
+    // The ring or byte that the refusal names, 0 where the table says 0.
+    pub fn place(self) -> usize
+        ensures { λ r. ⌜ r ≡ placeOf self ⌝ }
+    {
+        match self {
+            Refusal::TooFew(ring) => ring,
+            Refusal::TooMany(ring) => ring,
+            Refusal::SizesDiffer => 0,
+            Refusal::NotClosed(ring) => ring,
+            Refusal::BadScale => 0,
+            Refusal::BeyondLimit(ring) => ring,
+            Refusal::BadHeight => 0,
+            Refusal::NoRoom => 0,
+            Refusal::Damaged(at) => at,
+        }
+    }
+}
