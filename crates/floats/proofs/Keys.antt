@@ -1,19 +1,20 @@
 -- The order of the 64-bit patterns that are no NaN's is the order of a number, `key`: patterns count up from +0, and down from -0. Assumes nothing.
 use mathlib.Core.Path.{_≡_, refl, sym, ap, _∙_, subst}
 use mathlib.Core.Logic.{_⊎_, inl, inr}
-use Prim.Native.Nat.{ℕ, zero, suc, _+_, _-_, _*_, _/_, _%_, _^_, _≤_, _<_, zero-le}
-use native.Mathlib.Nat.{le-trans, le-of-eq, lt-of-lt-of-le, lt-of-le-of-lt, not-le-of-lt, eq-or-lt-of-le, mod-eq-of-lt, mul-assoc, mul-comm, mul-right-comm, mul-one, mul-le-mul-right, mul-le-mul-left, mul-lt-mul-of-pos-right, lt-of-mul-lt-mul-right, mul-pos, pow-succ'}
+use Prim.Native.Nat.{ℕ, zero, suc, _+_, _-_, _*_, _/_, _%_, _^_, _≤_, _<_}
+use native.Mathlib.Nat.{le-trans, le-of-eq, lt-of-lt-of-le, eq-or-lt-of-le, mod-eq-of-lt, mul-assoc, mul-comm, mul-right-comm, mul-one, mul-le-mul-right, mul-le-mul-left, mul-lt-mul-of-pos-right, lt-of-mul-lt-mul-right, mul-pos, pow-succ'}
 use native.Mathlib.Omega.{arith}
-use mathlib.Core.Bool.{Bool, true, false, not, _&&_, _||_, Bool·beq, cond, true≢false}
-use lib.Dec.{T, ltb, leb, eqb, ltb→lt, lt→ltb, leb→le, le→leb, eqb→eq, eqb-refl, not-T}
-use borrow.Author.Tests.{lt-leb, le-leb, ne-eqb, eq-eqb, eqb-true, ltb-true, ltb-false, lt-ltb, le-ltb}
-use lib.IntN.{ℤ, pos}
+use mathlib.Core.Bool.{Bool, true, false, cond, true≢false}
+use lib.Dec.{T, ltb, leb, eqb, ltb→lt, lt→ltb}
+use borrow.Author.Tests.{lt-leb, le-leb, ne-eqb, ltb-true, ltb-false, lt-ltb, le-ltb}
+use lib.IntN.{pos}
 use lib.Pow.{pow-pos, pow-mono}
-use lib.Ieee.{Float, nan, inf, fin, binary64, up, down, odd, ofFields, ofBits, lt, le, eq, neg, below, level, isNan, fits, toBits}
-use lib.Ieee.Fits.{up-pos, down-pos, and-l, and-r}
+use lib.Ieee.{Float, nan, inf, fin, binary64, up, down, odd, ofFields, ofBits, lt, le, eq, neg, isNan, fits, toBits}
+use lib.Ieee.Fits.{down-pos}
 use lib.Ieee.Bits.{nanBits-is, nanBits-above, ofBits-toBits, toBits-lt}
 use lib.Ieee.Exact.{HasValue, odd-sign}
 use Rattle.floats.specs.Next.{pickN}
+use Rattle.floats.proofs.Order.{lt-le, eq-le, lt-not-le, le-refl, le-antisym}
 
 -- 2 ^ 52, the infinity's pattern and the sign's bit
 abbrev pub H : ℕ
@@ -232,7 +233,10 @@ across (fin true m e) (fin t n d) p q h = absurd (true≢false p)
 across (fin false m e) (fin true n d) p q h = absurd (true≢false q)
 across (fin false m e) (fin false n d) p q h =
     lt→ltb 0 (m * up e * down d + n * up d * down e)
-    (elim h [ inl u ↦ left (m * up e * down d) (n * up d * down e) (mul-pos (some (m * up e) (down e) (ltb→lt (0 * 1 * down e) (m * up e * 1) u)) (down-pos d)) | inr u ↦ right (m * up e * down d) (n * up d * down e) (mul-pos (some (n * up d) (down d) (ltb→lt (0 * 1 * down d) (n * up d * 1) u)) (down-pos e)) ])
+    (elim h [
+      | inl u ↦ left (m * up e * down d) (n * up d * down e) (mul-pos (some (m * up e) (down e) (ltb→lt (0 * 1 * down e) (m * up e * 1) u)) (down-pos d))
+      | inr u ↦ right (m * up e * down d) (n * up d * down e) (mul-pos (some (n * up d) (down d) (ltb→lt (0 * 1 * down d) (n * up d * 1) u)) (down-pos e))
+    ])
   where
     some : (a d : ℕ) → 0 * 1 * d < a * 1 → 0 < a
     some a d h = omega arith
@@ -294,53 +298,6 @@ lt-key a b p q h = go (ltb a TOP) (ltb b TOP) refl refl h
         (neg-lt (ofBits binary64 (a - TOP)) (ofBits binary64 (b - TOP)) (clear (a - TOP) (r .1)) (clear (b - TOP) (s .1)) (pos-lt (b - TOP) (a - TOP) (flip a b A B (q .0) k) (r .1)))))
 
 -- ---- and back: what is below has the lower key
-lt-asym : (x y : Float) → T (lt x y) → T (lt y x || eq y x) → ⊥
-unfolding lt eq
-lt-asym nan y h k = h
-lt-asym (inf s) nan h k = h
-lt-asym (inf true) (inf true) h k = h
-lt-asym (inf true) (inf false) h k = k
-lt-asym (inf false) (inf t) h k = h
-lt-asym (inf true) (fin t n d) h k = k
-lt-asym (inf false) (fin t n d) h k = h
-lt-asym (fin s m e) nan h k = h
-lt-asym (fin s m e) (inf true) h k = h
-lt-asym (fin s m e) (inf false) h k = k
-lt-asym (fin s m e) (fin t n d) h k = go s t (m * up e * down d) (n * up d * down e) h k
-  where
-    over : (a b : ℕ) → a < b → b ≤ a → ⊥
-    over a b h k = omega arith
-
-    or-le : (a b : ℕ) (r : Bool) → T (ltb a b || (eqb a b && r)) → a ≤ b
-    or-le a b r t = pick (ltb a b) (eqb a b) refl refl t
-      where
-        pick : (x y : Bool) → ltb a b ≡ x → eqb a b ≡ y → T (x || (y && r)) → a ≤ b
-        pick true y p q t = omega (arith, ltb-true)
-        pick false true p q t = omega (arith, eqb-true)
-        pick false false p q t = absurd t
-
-    go : (s t : Bool) (a b : ℕ) → T (below s a t b) → T (below t b s a || level t b s a) → ⊥
-    go false false a b h k = over a b (ltb→lt a b h) (or-le b a true k)
-    go false true a b h k = h
-    go true false a b h k = some a b (ltb→lt 0 (a + b) h) (eqb→eq b a (and-l (eqb b a) (eqb b 0) k)) (eqb→eq b 0 (and-r (eqb b a) (eqb b 0) k))
-      where
-        some : (a b : ℕ) → 0 < a + b → b ≡ a → b ≡ 0 → ⊥
-        some a b h k l = omega arith
-    go true true a b h k = over b a (ltb→lt b a h) (two (ltb a b) (eqb b a) refl refl k)
-      where
-        two : (x y : Bool) → ltb a b ≡ x → eqb b a ≡ y → T (x || (y && true)) → a ≤ b
-        two true y p q t = omega (arith, ltb-true)
-        two false true p q t = omega (arith, eqb-true)
-        two false false p q t = absurd t
-
-eq-self : (x : Float) → isNan x ≡ false → T (eq x x)
-unfolding eq isNan
-eq-self nan h = absurd (true≢false h)
-eq-self (inf true) h = tt
-eq-self (inf false) h = tt
-eq-self (fin true m e) h = rw (eq-eqb (m * up e * down e) (m * up e * down e) refl) tt
-eq-self (fin false m e) h = rw (eq-eqb (m * up e * down e) (m * up e * down e) refl) tt
-
 zeros : T (eq (ofBits binary64 0) (ofBits binary64 TOP)) × T (eq (ofBits binary64 TOP) (ofBits binary64 0))
 unfolding ofBits eq
 zeros = (tt, tt)
@@ -352,7 +309,8 @@ pub eq-key : (a b : ℕ) → Plain a → Plain b → key a ≡ key b → T (eq (
 eq-key a b p q h = go (ltb a TOP) (ltb b TOP) refl refl h
   where
     same : a ≡ b → T (eq (ofBits binary64 a) (ofBits binary64 b))
-    same e = subst (λ (z : ℕ). T (eq (ofBits binary64 a) (ofBits binary64 z))) e (eq-self (ofBits binary64 a) (not-nan a p))
+    same e = subst (λ (z : ℕ). T (eq (ofBits binary64 a) (ofBits binary64 z))) e
+        (le-antisym (ofBits binary64 a) (ofBits binary64 a) (le-refl (ofBits binary64 a) (not-nan a p)) (le-refl (ofBits binary64 a) (not-nan a p)))
 
     go : (x y : Bool) → ltb a TOP ≡ x → ltb b TOP ≡ y → pickN x (TOP + a) (TOP + TOP - a) ≡ pickN y (TOP + b) (TOP + TOP - b) → T (eq (ofBits binary64 a) (ofBits binary64 b))
     go true true u v k = same (omega arith)
@@ -369,24 +327,17 @@ eq-key a b p q h = go (ltb a TOP) (ltb b TOP) refl refl h
     go false false u v k = same (omega (arith, p .0, q .0, ltb-false a TOP u, ltb-false b TOP v))
 
 pub le-key : (a b : ℕ) → Plain a → Plain b → key a ≤ key b → T (le (ofBits binary64 a) (ofBits binary64 b))
-unfolding le
-le-key a b p q h = elim (eq-or-lt-of-le h) [ inl e ↦ or-r (lt (ofBits binary64 a) (ofBits binary64 b)) (eq (ofBits binary64 a) (ofBits binary64 b)) (eq-key a b p q e) | inr l ↦ or-l (lt (ofBits binary64 a) (ofBits binary64 b)) (eq (ofBits binary64 a) (ofBits binary64 b)) (lt-key a b p q l) ]
-  where
-    or-l : (a b : Bool) → T a → T (a || b)
-    or-l true b t = tt
-    or-l false b t = absurd t
-
-    or-r : (a b : Bool) → T b → T (a || b)
-    or-r true b t = tt
-    or-r false b t = t
+le-key a b p q h = elim (eq-or-lt-of-le h) [
+  | inl e ↦ eq-le (ofBits binary64 a) (ofBits binary64 b) (eq-key a b p q e)
+  | inr l ↦ lt-le (ofBits binary64 a) (ofBits binary64 b) (lt-key a b p q l)
+]
 
 pub key-lt : (a b : ℕ) → Plain a → Plain b → T (lt (ofBits binary64 a) (ofBits binary64 b)) → key a < key b
-unfolding le
 key-lt a b p q h = go (ltb (key a) (key b)) refl
   where
     go : (x : Bool) → ltb (key a) (key b) ≡ x → key a < key b
     go true e = ltb-true (key a) (key b) e
-    go false e = absurd (lt-asym (ofBits binary64 a) (ofBits binary64 b) h (le-key b a q p (ltb-false (key a) (key b) e)))
+    go false e = absurd (lt-not-le (ofBits binary64 a) (ofBits binary64 b) h (le-key b a q p (ltb-false (key a) (key b) e)))
 
 pub plain-bits : (x : Float) → T (fits binary64 x) → isNan x ≡ false → Plain (toBits binary64 x)
 plain-bits x f h =
@@ -394,13 +345,9 @@ plain-bits x f h =
     (toBits-lt binary64 x f, ltb-false INF (n % TOP) (sym (nanBits-above binary64 n) ∙ nanBits-is binary64 n ∙ ap isNan (ofBits-toBits binary64 x f) ∙ h))
 
 pub key-le : (a b : ℕ) → Plain a → Plain b → T (eq (ofBits binary64 a) (ofBits binary64 b)) → key a ≤ key b
-unfolding le
 key-le a b p q h = go (ltb (key b) (key a)) refl
   where
-    or-r : (a b : Bool) → T b → T (a || b)
-    or-r true b t = tt
-    or-r false b t = t
-
     go : (x : Bool) → ltb (key b) (key a) ≡ x → key a ≤ key b
-    go true e = absurd (lt-asym (ofBits binary64 b) (ofBits binary64 a) (lt-key b a q p (ltb-true (key b) (key a) e)) (or-r (lt (ofBits binary64 a) (ofBits binary64 b)) (eq (ofBits binary64 a) (ofBits binary64 b)) h))
+    go true e =
+        absurd (lt-not-le (ofBits binary64 b) (ofBits binary64 a) (lt-key b a q p (ltb-true (key b) (key a) e)) (eq-le (ofBits binary64 a) (ofBits binary64 b) h))
     go false e = ltb-false (key b) (key a) e

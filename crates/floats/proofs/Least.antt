@@ -1,17 +1,18 @@
 -- `nextUp` is IEEE 754's: for an x below +infinity it is the least float above x. Assumes nothing.
 use mathlib.Core.Path.{_≡_, refl, sym, ap, _∙_, subst}
-use Prim.Native.Nat.{ℕ, suc, _+_, _-_, _*_, _%_, _≤_, _<_}
+use Prim.Native.Nat.{ℕ, suc, _+_, _-_, _≤_, _<_}
 use native.Mathlib.Nat.{le-of-eq, le-antisymm}
 use native.Mathlib.Omega.{arith}
-use mathlib.Core.Bool.{Bool, true, false, not, true≢false}
-use lib.Dec.{T, ltb, eqb, eqb→eq}
-use borrow.Author.Tests.{ltb-true, ltb-false, eqb-true, eqb-false, lt-ltb, le-ltb, eq-eqb}
-use lib.Ieee.{Float, nan, inf, fin, binary64, isNan, fits, ofBits, toBits, lt, le, eq, level, up, down}
-use lib.Ieee.Bits.{ofBits-toBits, toBits-lt, toBits-ofBits, ofBits-fits}
-use lib.Ieee.Fits.{nan-fits, and-l, and-r}
+use mathlib.Core.Bool.{Bool, true, false, not}
+use lib.Dec.{T, ltb, eqb}
+use borrow.Author.Tests.{ltb-true, ltb-false, eqb-true, eqb-false, lt-ltb, le-ltb}
+use lib.Ieee.{Float, nan, inf, binary64, isNan, fits, ofBits, toBits, lt, le, eq}
+use lib.Ieee.Bits.{ofBits-toBits, toBits-ofBits, ofBits-fits}
+use lib.Ieee.Fits.{nan-fits}
 use Rattle.floats.specs.Next.{nextUp, nextBits, pickN, pickF, Least}
 use Rattle.floats.proofs.Keys.{INF, TOP, key, Plain, le-key, key-lt, lt-key, plain-bits, key-le, not-nan}
 use Rattle.floats.proofs.Next.{elsewhere}
+use Rattle.floats.proofs.Order.{eq-sym, lt-le, eq-le, le-left, le-right}
 
 next-key : (n : ℕ) → Plain n → (n ≡ INF → ⊥) → Plain (nextBits n) × (key (nextBits n) ≡ suc (key n))
 next-key n p ne = go (ltb n INF) (eqb n INF) (eqb n TOP) refl refl refl
@@ -38,14 +39,7 @@ next-key n p ne = go (ltb n INF) (eqb n INF) (eqb n TOP) refl refl refl
         ((omega (arith, p .0), omega (arith, p .0, p .1)), rw (down-at (n - 1) (omega arith), down-at n (omega arith)) (omega (arith, p .0)))
 
 nan-not-above : (x y : Float) → T (lt x y) → (isNan y ≡ false) × (isNan x ≡ false)
-unfolding lt isNan
-nan-not-above nan y h = absurd h
-nan-not-above (inf s) nan h = absurd h
-nan-not-above (inf s) (inf t) h = (refl, refl)
-nan-not-above (inf s) (fin t n d) h = (refl, refl)
-nan-not-above (fin s m e) nan h = absurd h
-nan-not-above (fin s m e) (inf t) h = (refl, refl)
-nan-not-above (fin s m e) (fin t n d) h = (refl, refl)
+nan-not-above x y h = (le-right x y (lt-le x y h), le-left x y (lt-le x y h))
 
 top-is : ofBits binary64 INF ≡ inf false
 unfolding ofBits
@@ -55,13 +49,25 @@ not-top : T (lt (inf false) (inf false)) → ⊥
 unfolding lt
 not-top h = h
 
+-- one step up, on the pattern of an x below +infinity
+step : (x : Float) → T (fits binary64 x) → T (lt x (inf false)) → Plain (nextBits (toBits binary64 x)) × (key (nextBits (toBits binary64 x)) ≡ suc (key (toBits binary64 x)))
+step x f h =
+    next-key (toBits binary64 x) (plain-bits x f (nan-not-above x (inf false) h .1))
+    (λ e. not-top (subst (λ (z : Float). T (lt z (inf false))) (sym (ofBits-toBits binary64 x f) ∙ ap (ofBits binary64) e ∙ top-is) h))
+
+pub next-bits : (x : Float) → T (fits binary64 x) → T (lt x (inf false)) → toBits binary64 (nextUp x) ≡ nextBits (toBits binary64 x)
+next-bits x f h =
+    let n = nextBits (toBits binary64 x) in
+    let k = step x f h .0 in
+    ap (toBits binary64) (sym (elsewhere x (nan-not-above x (inf false) h .1))) ∙ toBits-ofBits binary64 n (k .0) (subst (λ (b : Bool). T (not b)) (sym (not-nan n k)) tt)
+
 pub next-least : (x : Float) → T (fits binary64 x) → T (lt x (inf false)) → Least x (nextUp x)
 next-least x f h =
     let n = toBits binary64 x in
     let xn = nan-not-above x (inf false) h .1 in
     let p = plain-bits x f xn in
     let x-is : ofBits binary64 n ≡ x = ofBits-toBits binary64 x f in
-    let k = next-key n p (λ e. not-top (subst (λ (z : Float). T (lt z (inf false))) (sym x-is ∙ ap (ofBits binary64) e ∙ top-is) h)) in
+    let k = step x f h in
     let up-is : ofBits binary64 (nextBits n) ≡ nextUp x = elsewhere x xn in
     record {
       above =
@@ -80,53 +86,17 @@ next-least x f h =
 abbrev pub rank : Float → ℕ
 rank x = key (toBits binary64 x)
 
-eq-sym : (x y : Float) → T (eq x y) → T (eq y x)
-unfolding eq
-eq-sym nan y h = absurd h
-eq-sym (inf s) nan h = absurd h
-eq-sym (inf true) (inf true) h = tt
-eq-sym (inf true) (inf false) h = h
-eq-sym (inf false) (inf true) h = h
-eq-sym (inf false) (inf false) h = tt
-eq-sym (inf s) (fin t n d) h = h
-eq-sym (fin s m e) nan h = h
-eq-sym (fin s m e) (inf t) h = h
-eq-sym (fin s m e) (fin t n d) h = go s t (m * up e * down d) (n * up d * down e) h
-  where
-    flip : (a b : ℕ) → T (eqb a b) → eqb b a ≡ true
-    flip a b h = eq-eqb b a (sym (eqb→eq a b h))
-
-    go : (s t : Bool) (a b : ℕ) → T (level s a t b) → T (level t b s a)
-    go true true a b h = rw (flip a b (and-l (eqb a b) true h)) tt
-    go false false a b h = rw (flip a b (and-l (eqb a b) true h)) tt
-    go true false a b h = rw (flip a b (and-l (eqb a b) (eqb a 0) h), eq-eqb b 0 (sym (eqb→eq a b (and-l (eqb a b) (eqb a 0) h)) ∙ eqb→eq a 0 (and-r (eqb a b) (eqb a 0) h))) tt
-    go false true a b h = rw (flip a b (and-l (eqb a b) (eqb a 0) h), eq-eqb b 0 (sym (eqb→eq a b (and-l (eqb a b) (eqb a 0) h)) ∙ eqb→eq a 0 (and-r (eqb a b) (eqb a 0) h))) tt
-
-no-nan-eq : (x y : Float) → T (eq x y) → (isNan x ≡ false) × (isNan y ≡ false)
-unfolding eq isNan
-no-nan-eq nan y h = absurd h
-no-nan-eq (inf s) nan h = absurd h
-no-nan-eq (inf s) (inf t) h = (refl, refl)
-no-nan-eq (inf s) (fin t n d) h = absurd h
-no-nan-eq (fin s m e) nan h = absurd h
-no-nan-eq (fin s m e) (inf t) h = absurd h
-no-nan-eq (fin s m e) (fin t n d) h = (refl, refl)
-
 pub eq-rank : (x y : Float) → T (fits binary64 x) → T (fits binary64 y) → T (eq x y) → rank x ≡ rank y
 eq-rank x y fx fy h =
-    let k = no-nan-eq x y h in
-    let p = plain-bits x fx (k .0) in
-    let q = plain-bits y fy (k .1) in
+    let l = eq-le x y h in
+    let p = plain-bits x fx (le-left x y l) in
+    let q = plain-bits y fy (le-right x y l) in
     let back : T (eq (ofBits binary64 (toBits binary64 x)) (ofBits binary64 (toBits binary64 y))) = rw (ofBits-toBits binary64 x fx, ofBits-toBits binary64 y fy) h in
-    le-antisymm (key-le (toBits binary64 x) (toBits binary64 y) p q back) (key-le (toBits binary64 y) (toBits binary64 x) q p (eq-sym (ofBits binary64 (toBits binary64 x)) (ofBits binary64 (toBits binary64 y)) back))
+    le-antisymm (key-le (toBits binary64 x) (toBits binary64 y) p q back)
+    (key-le (toBits binary64 y) (toBits binary64 x) q p (eq-sym (ofBits binary64 (toBits binary64 x)) (ofBits binary64 (toBits binary64 y)) back))
 
 pub next-rank : (x : Float) → T (fits binary64 x) → T (lt x (inf false)) → rank (nextUp x) ≡ suc (rank x)
-next-rank x f h =
-    let n = toBits binary64 x in
-    let xn = nan-not-above x (inf false) h .1 in
-    let p = plain-bits x f xn in
-    let k = next-key n p (λ e. not-top (subst (λ (z : Float). T (lt z (inf false))) (sym (ofBits-toBits binary64 x f) ∙ ap (ofBits binary64) e ∙ top-is) h)) in
-    rw (← elsewhere x xn, toBits-ofBits binary64 (nextBits n) (k .0 .0) (subst (λ (b : Bool). T (not b)) (sym (not-nan (nextBits n) (k .0))) tt)) (k .1)
+next-rank x f h = ap key (next-bits x f h) ∙ step x f h .1
 
 pub next-fits : (x : Float) → T (fits binary64 (nextUp x))
 unfolding nextUp

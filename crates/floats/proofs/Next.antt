@@ -1,16 +1,15 @@
 -- Facts about `nextUp`. Assumes nothing.
 use mathlib.Core.Path.{_≡_, refl, sym, ap, _∙_, subst}
 use mathlib.Core.Bool.{Bool, true, false, not, _&&_}
-use Prim.Native.Nat.{ℕ, _+_, _-_, _*_, _%_, _≤_, _<_}
+use Prim.Native.Nat.{ℕ, _+_, _-_, _%_, _≤_, _<_}
 use native.Mathlib.Omega.{arith}
-use lib.IntN.{ℤ, pos}
-use lib.Dec.{T, ltb, eqb, leb, ltb→lt, lt→ltb, eqb→eq, not-T, nltb→le}
+use lib.Dec.{T, ltb, eqb, ltb→lt, not-T, nltb→le}
 use borrow.Author.Tests.{ltb-true, ltb-false, eqb-false}
 use lib.Ieee.{Float, nan, inf, fin, binary64, isNan, ne, fits, ofBits, toBits, nanBits, lt, neg, div}
 use lib.Ieee.Scale.{finite}
 use lib.Ieee.Compare.{differs-from-itself}
-use lib.Ieee.Bits.{ofBits-toBits, toBits-lt, nanBits-is, nanBits-above, is-false}
-use Rattle.floats.specs.Next.{nextUp, nextBits, pickN, pickF}
+use lib.Ieee.Bits.{ofBits-toBits, toBits-lt, nanBits-is, nanBits-above}
+use Rattle.floats.specs.Next.{nextUp, nextBits, pickN}
 
 pub is-nan : (x : Float) → ne x x ≡ true → x ≡ nan
 is-nan x h = differs-from-itself x (subst T (sym h) tt)
@@ -58,16 +57,8 @@ pub elsewhere : (x : Float) → isNan x ≡ false → ofBits binary64 (nextBits 
 unfolding nextUp
 elsewhere x h = rw h
 
--- from -1
-minus-one : toBits binary64 (nextUp (fin true 1 (pos 0))) ≡ 0xbfef_ffff_ffff_ffff
-unfolding nextUp toBits ofBits isNan
-minus-one = refl
-
-from-zero : nextUp (fin true 0 (pos 0)) ≡ nextUp (fin false 0 (pos 0))
-unfolding nextUp toBits ofBits isNan
-from-zero = refl
-
-pub finite-is : (x : Float) → (lt (neg (div binary64 (ofBits binary64 0x3ff0_0000_0000_0000) (ofBits binary64 0))) x && lt x (div binary64 (ofBits binary64 0x3ff0_0000_0000_0000) (ofBits binary64 0))) ≡ finite x
+pub finite-is : (x : Float) → (lt (neg (div binary64 (ofBits binary64 0x3ff0_0000_0000_0000) (ofBits binary64 0))) x && lt x
+    (div binary64 (ofBits binary64 0x3ff0_0000_0000_0000) (ofBits binary64 0))) ≡ finite x
 unfolding lt neg div ofBits
 finite-is nan = refl
 finite-is (inf true) = refl

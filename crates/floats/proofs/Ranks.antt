@@ -1,26 +1,21 @@
 -- The order of the floats that are numbers is the order of their ranks, so a fact of the order is one of arithmetic. Assumes nothing.
-use mathlib.Core.Path.{_≡_, refl, sym, ap, _∙_, subst}
-use mathlib.Core.Logic.{_⊎_, inl, inr}
-use Prim.Native.Nat.{ℕ, _≤_, _<_}
-use native.Mathlib.Nat.{le-of-eq, le-antisymm, eq-or-lt-of-le}
+use mathlib.Core.Path.{_≡_, refl, subst}
+use mathlib.Core.Logic.{inl, inr}
+use Prim.Native.Nat.{ℕ, _≤_}
+use native.Mathlib.Nat.{eq-or-lt-of-le}
 use native.Mathlib.Omega.{arith}
-use mathlib.Core.Bool.{Bool, true, false, not, _||_, or-true, true≢false}
+use mathlib.Core.Bool.{Bool, true, false, _||_, or-true}
 use lib.Dec.{T, ltb, leb, eqb, ltb→lt, lt→ltb, leb→le, le→leb, eqb→eq, eqb-refl}
-use lib.Ieee.{Float, nan, inf, fin, binary64, isNan, fits, ofBits, toBits, lt, le, eq}
+use lib.Ieee.{Float, binary64, isNan, fits, ofBits, toBits, lt, le, eq}
 use lib.Ieee.Bits.{ofBits-toBits}
 use borrow.Author.Tests.{ltb-true, eqb-true, eq-eqb, lt-ltb}
-use Rattle.floats.proofs.Keys.{key, Plain, le-key, key-lt, lt-key, eq-key, plain-bits}
+use Rattle.floats.proofs.Parts.{same}
+use Rattle.floats.proofs.Keys.{key-lt, lt-key, eq-key, plain-bits}
 use Rattle.floats.proofs.Least.{rank, eq-rank}
 
 -- a number: the format holds it, and it is no NaN
 abbrev pub Number : Float → Type 0
 Number x = T (fits binary64 x) × (isNan x ≡ false)
-
-same : (a b : Bool) → (T a → T b) → (T b → T a) → a ≡ b
-same true true p q = refl
-same true false p q = absurd (p tt)
-same false true p q = absurd (q tt)
-same false false p q = refl
 
 module _ (x y : Float) (p : Number x) (q : Number y) where
   via : (P : Float → Float → Bool) → T (P (ofBits binary64 (toBits binary64 x)) (ofBits binary64 (toBits binary64 y))) → T (P x y)
@@ -56,6 +51,5 @@ module _ (x y : Float) (p : Number x) (q : Number y) where
           high : a ≤ b → T (ltb a b || eqb a b)
           high h = elim (eq-or-lt-of-le h) [ inl e ↦ rw (eq-eqb a b e, or-true (ltb a b)) tt | inr l ↦ rw (lt-ltb a b l) tt ]
 
--- for example
 pub le-trans : (x y z : Float) → Number x → Number y → Number z → T (le x y) → T (le y z) → T (le x z)
 le-trans x y z p q r h k = rw (le-is x z p r) (omega (arith, leb→le, le→leb, rw (le-is x y p q) at h, rw (le-is y z q r) at k))

@@ -1,10 +1,12 @@
+// Floats: what the language has no operator for. Every function takes any float.
 ghost use mathlib.Core.Path.{_≡_};
-ghost use Prim.Native.Nat.{_<_};
-ghost use lib.Ieee.{Float};
+ghost use lib.Ieee.{binary64};
 ghost use lib.Ieee.Scale.{finite};
-ghost use Rattle.floats.specs.Next.{nextUp, nextBits};
+ghost use Rattle.floats.specs.Next.{NextUp, nextUp};
+ghost use Rattle.floats.specs.Inner.NextBits.{nextBits};
+ghost use Rattle.floats.specs.Values.{absOf, lesserOf, greaterOf};
 
-// The pattern that stands after n on the way from the lowest float to the highest.
+// The pattern that stands after n, no NaN's, on the way from the lowest float to the highest.
 fn next_bits(n: u64) -> u64
     ensures { λ r. ⌜ r ≡ nextBits n ⌝ }
 {
@@ -20,10 +22,11 @@ fn next_bits(n: u64) -> u64
     n - 1
 }
 
-// IEEE 754's nextUp: the least float above x. NaN and +infinity stay, and both zeros go to the
-// smallest positive value.
+// IEEE 754's nextUp: the least float above x. NaN and +infinity stay, both zeros go to the smallest
+// positive value, and -infinity goes to the least finite one.
 pub fn next_up(x: f64) -> f64
-    ensures { λ r. ⌜ r ≡ nextUp x ⌝ }
+    ensures meets { λ r. ⌜ NextUp binary64 x r ⌝ }
+    ensures computed { λ r. ⌜ r ≡ nextUp x ⌝ }
 {
     if x != x {
         return x;
@@ -31,10 +34,43 @@ pub fn next_up(x: f64) -> f64
     f64::from_bits(next_bits(f64::to_bits(x)))
 }
 
-// Neither a NaN nor an infinity.
+// Neither a NaN nor an infinity: Rust's `f64::is_finite`.
 pub fn is_finite(x: f64) -> bool
     ensures { λ r. ⌜ r ≡ finite x ⌝ }
 {
     let top = 1.0 / 0.0;
     (x > -top) & (x < top)
+}
+
+// The size of x: Rust's `f64::abs`.
+pub fn abs(x: f64) -> f64
+    ensures { λ r. ⌜ r ≡ absOf x ⌝ }
+{
+    if x < 0.0 {
+        return -x;
+    }
+    if x == 0.0 {
+        return 0.0;
+    }
+    x
+}
+
+// Rust's `f64::min`.
+pub fn lesser(x: f64, y: f64) -> f64
+    ensures { λ r. ⌜ r ≡ lesserOf x y ⌝ }
+{
+    if (y < x) | (x != x) {
+        return y;
+    }
+    x
+}
+
+// Rust's `f64::max`.
+pub fn greater(x: f64, y: f64) -> f64
+    ensures { λ r. ⌜ r ≡ greaterOf x y ⌝ }
+{
+    if (x < y) | (x != x) {
+        return y;
+    }
+    x
 }

@@ -1,4 +1,4 @@
--- `fl::is_finite` meets its contract. Assumes nothing.
+-- `floats::is_finite` meets its contract. Assumes nothing.
 use Rattle.floats.proofs.Next.{finite-is}
 use Rattle.floats.proofs.is_finite.Statement.{statement}
 use Rattle.floats.proofs.is_finite.Tie as tie

@@ -1,4 +1,4 @@
--- `fl::next_bits` meets its contract: each way out rewrites by the tests that led there. Assumes nothing.
+-- `floats::next_bits` meets its contract: each way out rewrites by the tests that led there. Assumes nothing.
 use borrow.Author.Needs.{needs}
 use borrow.Author.Tests.{lt-ltb, le-ltb, eq-eqb, ne-eqb}
 use Rattle.floats.proofs.next_bits.Statement.{statement}

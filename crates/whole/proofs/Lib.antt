@@ -1,0 +1,10 @@
+pub mod Integers
+pub mod Held
+pub mod Floors
+pub mod Rounds
+pub mod Width
+pub mod Within
+pub mod Double
+pub mod Ceilings
+pub mod Joined
+pub mod Samples
