@@ -1,0 +1,18 @@
+-- The numbers that stand for an answer: 0 or 01's number of the refusal, then a place, then what comes with them.
+use Prim.Native.Nat.{ℕ}
+use mathlib.Core.List.{List}
+use Rattle.answers.specs.Refusals.{numberOf, placeOf}
+use Rattle.varint.specs.declared.ReadUvarint.{ReadUvarint}
+use Rattle.varint.specs.declared.ReadUvarint.the-variants.{Value, Unread}
+use Rattle.varint.specs.declared.AppendUvarint.{AppendUvarint}
+use Rattle.varint.specs.declared.AppendUvarint.the-variants.{Appended, Unappended}
+
+-- the place past the number and the number that was read; or the refusal's place and 0
+abbrev pub readNumbers : ReadUvarint → ℕ × ℕ × ℕ
+readNumbers (Value x next) = (0, next, x)
+readNumbers (Unread refusal) = (numberOf refusal, placeOf refusal, 0)
+
+-- the place past the number that was written, or the refusal's; and the room
+abbrev pub appendNumbers : AppendUvarint × List ℕ → ℕ × ℕ × List ℕ
+appendNumbers (Appended next, out) = (0, next, out)
+appendNumbers (Unappended refusal, out) = (numberOf refusal, placeOf refusal, out)

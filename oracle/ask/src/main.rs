@@ -1,0 +1,89 @@
+//! The program `oracle`: asks geometry-rs.
+//!
+//!     oracle < QUESTIONS              a line of answer for each line of question
+//!     oracle sample FOLDER            writes the sample: FOLDER/stdin, the questions, and FOLDER/stdout, the answers
+//!     oracle sample --check FOLDER    holds the two files against what it would write
+
+mod numbers;
+mod rings;
+mod sample;
+mod words;
+
+use std::io::{self, Read};
+use std::path::Path;
+use std::process::ExitCode;
+use std::{env, fs};
+
+const USAGE: &str = "usage: oracle < QUESTIONS | oracle sample [--check] FOLDER | oracle --help";
+
+fn main() -> ExitCode {
+    let arguments: Vec<String> = env::args().skip(1).collect();
+    let done = match arguments.iter().map(String::as_str).collect::<Vec<_>>()[..] {
+        [] => answer_standard_input(),
+        ["sample", folder] => write_sample(Path::new(folder)),
+        ["sample", "--check", folder] => check_sample(Path::new(folder)),
+        ["--help"] => {
+            println!("{USAGE}\nquestions:\n{}\n{}", numbers::HELP, rings::HELP);
+            Ok(())
+        }
+        _ => Err(USAGE.into()),
+    };
+    match done {
+        Ok(()) => ExitCode::SUCCESS,
+        Err(wrong) => {
+            eprintln!("oracle: {wrong}");
+            ExitCode::FAILURE
+        }
+    }
+}
+
+fn answer(question: &str) -> Result<String, String> {
+    match numbers::answer(question)? {
+        Some(answer) => Ok(answer),
+        None => rings::answer(question),
+    }
+}
+
+/// The answers to some lines, a line each.
+fn answers(questions: &str) -> Result<String, String> {
+    let mut out = String::new();
+    for (i, line) in questions.lines().enumerate() {
+        out += &answer(line).map_err(|wrong| format!("line {}: {wrong}", i + 1))?;
+        out.push('\n');
+    }
+    Ok(out)
+}
+
+fn answer_standard_input() -> Result<(), String> {
+    let mut questions = String::new();
+    io::stdin().read_to_string(&mut questions).map_err(|e| e.to_string())?;
+    print!("{}", answers(&questions)?);
+    Ok(())
+}
+
+/// The names and contents of the sample's files.
+fn sample_files() -> Result<[(&'static str, String); 2], String> {
+    let questions: String = sample::questions().iter().map(|q| format!("{q}\n")).collect();
+    let answers = answers(&questions)?;
+    Ok([("stdin", questions), ("stdout", answers)])
+}
+
+fn write_sample(folder: &Path) -> Result<(), String> {
+    for (name, content) in sample_files()? {
+        let file = folder.join(name);
+        fs::write(&file, &content).map_err(|e| format!("{}: {e}", file.display()))?;
+        println!("{}: {} lines", file.display(), content.lines().count());
+    }
+    Ok(())
+}
+
+fn check_sample(folder: &Path) -> Result<(), String> {
+    for (name, content) in sample_files()? {
+        let file = folder.join(name);
+        let there = fs::read_to_string(&file).map_err(|e| format!("{}: {e}", file.display()))?;
+        if there != content {
+            return Err(format!("{} is not what `oracle sample` writes", file.display()));
+        }
+    }
+    Ok(())
+}
