@@ -1,5 +1,6 @@
 // What a call says when it says no: document 01's numbered refusals, each with its place.
 ghost use mathlib.Core.Path.{_≡_};
+ghost use Rattle.answers.specs.Answers.{said};
 ghost use Rattle.answers.specs.Refusals.{numberOf, placeOf};
 
 // A refusal whose place the table gives as 0 always carries none.
@@ -48,5 +49,20 @@ impl Refusal {
             Refusal::NoRoom => 0,
             Refusal::Damaged(at) => at,
         }
+    }
+}
+
+// What an inside question answers.
+pub enum Answer {
+    Yes,
+    No,
+    Refused(Refusal),
+}
+
+impl Answer {
+    pub fn of(yes: bool) -> Answer
+        ensures { λ r. ⌜ r ≡ said yes ⌝ }
+    {
+        if yes { Answer::Yes } else { Answer::No }
     }
 }

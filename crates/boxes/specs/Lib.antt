@@ -1,1 +1,3 @@
 pub mod Boxes
+pub mod Segments
+pub mod Quads

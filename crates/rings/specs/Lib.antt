@@ -1,1 +1,4 @@
+pub mod Keep
 pub mod Ring
+pub mod RingTest
+pub mod Checks

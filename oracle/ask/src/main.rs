@@ -63,9 +63,10 @@ fn answer_standard_input() -> Result<(), String> {
 
 /// The names and contents of the sample's files.
 fn sample_files() -> Result<[(&'static str, String); 2], String> {
-    let questions: String = sample::questions().iter().map(|q| format!("{q}\n")).collect();
-    let answers = answers(&questions)?;
-    Ok([("stdin", questions), ("stdout", answers)])
+    let lines = |list: Vec<String>| list.iter().map(|q| format!("{q}\n")).collect::<String>();
+    let (questions, others) = (lines(sample::questions()), sample::no_questions());
+    let answers = answers(&questions)? + &"?\n".repeat(others.len());
+    Ok([("stdin", questions + &lines(others)), ("stdout", answers)])
 }
 
 fn write_sample(folder: &Path) -> Result<(), String> {

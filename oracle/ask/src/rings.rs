@@ -2,7 +2,7 @@
 
 use crate::words::{bytes, float, yes, Words, Wrong};
 use opened::open::{self, Cast, Stripes, Tree};
-use opened::{I32Polygon, I32RaycastMode, Point, PolygonBuildOptions, Rect, RingBuildStats, Segment};
+use opened::{I32Point, I32Polygon, I32RaycastMode, Point, PolygonBuildOptions, Rect, RingBuildStats, Segment};
 
 pub const HELP: &str = "\
 meet BOX BOX | choose BOX BOX | quad BOX N
@@ -31,7 +31,7 @@ pub fn answer(question: &str) -> Result<String, Wrong> {
 }
 
 fn cast(words: &mut Words) -> Result<String, Wrong> {
-    let mut end = || words.corner().map(|c| Point { x: f64::from(c.x), y: f64::from(c.y) });
+    let mut end = || words.corner().map(|c: I32Point| Point { x: f64::from(c.x), y: f64::from(c.y) });
     let segment = Segment { a: end()?, b: end()? };
     Ok(match open::raycast(&segment, words.point()?) {
         Cast::Neither => "neither",
@@ -54,8 +54,7 @@ fn about_rings(question: &str) -> Result<String, Wrong> {
         }
         "grid" => {
             let edge = edge(&mut words)?;
-            let p = words.corner()?;
-            let point = Point { x: i64::from(p.x), y: i64::from(p.y) };
+            let point: Point<i64> = words.corner()?;
             yes(open::ring_test_integer(&words.ring()?, point, edge))
         }
         "test" => {

@@ -63,11 +63,11 @@ impl<'a> Words<'a> {
         Ok(Rect { min: self.point()?, max: self.point()? })
     }
 
-    /// A corner `X,Y`, in decimal.
-    pub fn corner(&mut self) -> Result<I32Point, Wrong> {
-        let word = self.word("a corner")?;
+    /// A place `X,Y` of whole numbers, in decimal: a corner, or a place of any i64.
+    pub fn corner<T: std::str::FromStr>(&mut self) -> Result<Point<T>, Wrong> {
+        let word = self.word("X,Y")?;
         let corner = word.split_once(',').and_then(|(x, y)| Some(Point { x: x.parse().ok()?, y: y.parse().ok()? }));
-        corner.ok_or_else(|| format!("a corner X,Y was expected, not {word}"))
+        corner.ok_or_else(|| format!("X,Y was expected, not {word}"))
     }
 
     /// Corners up to the end of the question or to a slash.

@@ -1,0 +1,6 @@
+pub mod Sides
+pub mod Sizes
+pub mod Quads
+pub mod Lines
+pub mod Segments
+pub mod Samples

@@ -1,0 +1,5 @@
+pub mod Halves
+pub mod Rest
+pub mod Quotients
+pub mod Heights
+pub mod Samples

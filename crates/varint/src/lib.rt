@@ -1,0 +1,125 @@
+// Unsigned LEB128 numbers (DWARF 5, section 7.6), low seven bits first: `append_uvarint` and
+// `read_uvarint`, and what the packing of a tree needs of them. Each promise is an equality, so that
+// it leaves room for one answer and one content only.
+use answers::Refusal;
+use room::Put;
+use room::zero_from_u8;
+ghost use mathlib.Core.Path.{_≡_};
+ghost use Prim.Native.Nat.{_+_, _≤_, min};
+ghost use lib.ListN.{length, take};
+ghost use Rattle.room.specs.Room.{write};
+ghost use Rattle.room.specs.Inner.Pour.{putOf};
+ghost use Rattle.varint.specs.Leb128.{encode};
+ghost use Rattle.varint.specs.Uvarint.{readUvarint, appendUvarint};
+
+// The number that was read and the place past it, or why there is none.
+pub enum ReadUvarint {
+    Value(u64, usize),
+    Unread(Refusal),
+}
+
+// The place past the number that was written, or why it was not.
+pub enum AppendUvarint {
+    Appended(usize),
+    Unappended(Refusal),
+}
+
+fn lesser(a: usize, b: usize) -> usize
+    ensures { λ r. ⌜ r ≡ min a b ⌝ }
+{
+    if a < b { a } else { b }
+}
+
+// Reads the number that starts at `at` in the part of `src` that ends before `end`. An `end` past
+// the slice counts as the slice's end, and an `at` from the part's end on finds no byte.
+pub fn read_uvarint(src: &[u8], at: usize, end: usize) -> ReadUvarint
+    ensures { λ r. ⌜ r ≡ readUvarint 64 (take end (now (src .entry))) at ⌝ }
+{
+    let stop = lesser(end, src.len());
+    let mut x: u64 = 0;
+    let mut weight: u64 = 1;
+    let mut p = at;
+    let mut left: usize = 10;
+    while 1 < left {
+        if stop <= p {
+            return ReadUvarint::Unread(Refusal::Damaged(at));
+        }
+        let b = src[p] as u64;
+        if b < 128 {
+            return ReadUvarint::Value(x + b * weight, p + 1);
+        }
+        x += (b - 128) * weight;
+        weight = weight * 128;
+        p += 1;
+        left -= 1;
+    }
+    // The tenth byte: of its seven bits only the lowest has a place below 2 to the power 64.
+    if stop <= p {
+        return ReadUvarint::Unread(Refusal::Damaged(at));
+    }
+    let b = src[p] as u64;
+    if b < 128 {
+        return ReadUvarint::Value(x + b % 2 * weight, p + 1);
+    }
+    ReadUvarint::Unread(Refusal::Damaged(at))
+}
+
+// How many bytes a number takes.
+pub fn uvarint_len(x: u64) -> usize
+    ensures { λ r. ⌜ r ≡ length (encode x) ⌝ }
+{
+    let mut n: usize = 1;
+    let mut rest = x;
+    while 128 <= rest {
+        rest = rest / 128;
+        n += 1;
+    }
+    n
+}
+
+// Writes a number's bytes at a place where they fit, and answers the place past them.
+fn write_uvarint(out: &mut [u8], at: usize, x: u64) -> usize
+    requires { ⌜ at + length (encode x) ≤ length (now out) ⌝ }
+    ensures { λ r. ⌜ (r ≡ at + length (encode x)) × (now (out .exit) ≡ write (now (out .entry)) at (encode x)) ⌝ }
+{
+    let mut p = at;
+    let mut rest = x;
+    while 128 <= rest {
+        out[p] = (rest % 128 + 128) as u8;
+        rest = rest / 128;
+        p += 1;
+    }
+    out[p] = rest as u8;
+    p + 1
+}
+
+// For the crates above, which put several numbers one after the other: the bytes where they fit,
+// and else the room as it was.
+pub fn put_uvarint(out: &mut [u8], at: usize, x: u64) -> Put
+    ensures { λ r. ⌜ putOf (encode x) at (now (out .entry)) ≡ (r, now (out .exit)) ⌝ }
+{
+    let n = uvarint_len(x);
+    if out.len() < at {
+        return Put::Short;
+    }
+    if out.len() - at < n {
+        return Put::Short;
+    }
+    Put::Past(write_uvarint(out, at, x))
+}
+
+// Puts a number's bytes behind the first `at` bytes of the room, and zeros behind them.
+pub fn append_uvarint(out: &mut [u8], at: usize, x: u64) -> AppendUvarint
+    ensures { λ r. ⌜ appendUvarint (now (out .entry)) at x ≡ (r, now (out .exit)) ⌝ }
+{
+    match put_uvarint(out, at, x) {
+        Put::Past(next) => {
+            zero_from_u8(out, next);
+            AppendUvarint::Appended(next)
+        }
+        Put::Short => {
+            zero_from_u8(out, 0);
+            AppendUvarint::Unappended(Refusal::NoRoom)
+        }
+    }
+}
