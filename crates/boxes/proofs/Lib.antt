@@ -1,6 +1,7 @@
 pub mod Sides
 pub mod Sizes
 pub mod Quads
+pub mod Middle
 pub mod Lines
 pub mod Segments
 pub mod Samples

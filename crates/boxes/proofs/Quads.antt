@@ -5,11 +5,9 @@ use Prim.Native.Nat.{ℕ, zero, suc}
 use native.Mathlib.Omega.{arith}
 use mathlib.Core.Bool.{Bool, true, false, not}
 use lib.Dec.{T}
-use borrow.Author.Tests.{not-true, not-false}
 use lib.Ieee.{Float, isNan, lt, le}
-use Rattle.floats.proofs.Order.{le-left, le-right, lt-is-not-le, lt-le}
+use Rattle.floats.proofs.Order.{le-right, lt-is-not-le, lt-le}
 use Rattle.boxes.specs.declared.Rect.{Rect}
-use Rattle.boxes.specs.declared.Chosen.{Chosen}
 use Rattle.boxes.specs.declared.Chosen.the-variants.{Quadrant, Stays}
 use Rattle.boxes.specs.Quads.{midX, midY, quadrant, chosen, chosenOfNumbers, quadBounds}
 use Rattle.boxes.proofs.Sizes.{Coordinate, coordinate-number, middle-coordinate}

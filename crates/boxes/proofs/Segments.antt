@@ -1,16 +1,14 @@
 -- The box of a stored segment: a box of coordinates, as wide as it is high at least 0, that holds exactly the heights between the ends. Assumes nothing.
 use mathlib.Core.Path.{_≡_, _∙_, sym}
 use Prim.Native.Nat.{_^_, _<_}
-use mathlib.Core.Bool.{Bool, true, false, _&&_, _||_}
+use mathlib.Core.Bool.{Bool, true, false, cond, _&&_, _||_}
 use lib.Dec.{T}
 use lib.Signed.{mag}
-use lib.Ieee.{Float, isNan, lt, le, ne}
-use Rattle.floats.specs.Next.{pickF}
-use Rattle.floats.specs.Values.{lesserOf, greaterOf}
+use lib.Ieee.{Float, isNan, lt, le}
 use Rattle.boxes.specs.declared.Rect.{Rect}
 use Rattle.boxes.specs.declared.Segment.{Segment}
 use Rattle.boxes.specs.Boxes.{meets}
-use Rattle.boxes.specs.Segments.{pointOf, rectOf}
+use Rattle.boxes.specs.Segments.{pointOf, lesser, greater, rectOf}
 use Rattle.boxes.proofs.Sizes.{Coordinate, coordinate-number, stored-coordinate}
 use Rattle.boxes.proofs.Quads.{Lies, Placed}
 use Rattle.boxes.proofs.Lines.{heightLine, own-meets, lesser-below-greater, range-is}
@@ -22,17 +20,15 @@ pub record Stored (s : Segment) : Type 0 where
   pub bx : mag (s .b .x) < 2 ^ 31
   pub by : mag (s .b .y) < 2 ^ 31
 
-picked : (t : Bool) (u v : Float) → Coordinate u → Coordinate v → Coordinate (pickF t v u)
-picked true u v p q = q
-picked false u v p q = p
+either : (t : Bool) (u v : Float) → Coordinate u → Coordinate v → Coordinate (cond t u v)
+either true u v p q = p
+either false u v p q = q
 
-lesser-coordinate : (u v : Float) → Coordinate u → Coordinate v → Coordinate (lesserOf u v)
-unfolding lesserOf
-lesser-coordinate u v p q = picked (lt v u || ne u u) u v p q
+lesser-coordinate : (u v : Float) → Coordinate u → Coordinate v → Coordinate (lesser u v)
+lesser-coordinate u v p q = either (lt u v) u v p q
 
-greater-coordinate : (u v : Float) → Coordinate u → Coordinate v → Coordinate (greaterOf u v)
-unfolding greaterOf
-greater-coordinate u v p q = picked (lt u v || ne u u) u v p q
+greater-coordinate : (u v : Float) → Coordinate u → Coordinate v → Coordinate (greater u v)
+greater-coordinate u v p q = either (lt u v) v u q p
 
 module _ (s : Segment) (z : Stored s) where
   ax-coordinate : Coordinate (pointOf (s .a) .x)

@@ -1,20 +1,34 @@
 -- The middle of two floats of size at most 2 ^ 31 is one too, so the boxes of quadrants of quadrants stay numbers. Assumes nothing.
-use mathlib.Core.Path.{_≡_, refl, sym, ap, _∙_, subst}
-use Prim.Native.Nat.{ℕ, zero, suc, _+_, _-_, _*_, _^_, _≤_, _<_}
+use mathlib.Core.Path.{_≡_, refl, subst}
+use Prim.Native.Nat.{ℕ, suc, _+_, _-_, _*_, _%_, _^_, _≤_, _<_}
 use native.Mathlib.Nat.{le-trans, mul-one, mul-pos, mul-le-mul-right, zero-lt-suc}
 use native.Mathlib.Omega.{arith}
 use mathlib.Core.Bool.{Bool, true, false, _&&_, Bool·beq, cond}
 use lib.IntN.{ℤ, pos, negsuc, natAbs}
 use lib.Signed.{mag}
-use lib.Dec.{T, ltb}
+use lib.Dec.{T, ltb, leb, eqb, ltb→lt, leb→le}
 use lib.Ieee.{Float, nan, inf, fin, binary64, up, down, round, sum, add, div, ofBits, ofInt, fits, isNan}
-use lib.Ieee.Fits.{down-pos, div-fits, ofInt-fits}
+use lib.Ieee.Fits.{down-pos, and-l, and-r, div-fits, ofInt-fits}
 use lib.Ieee.Exact.{HasValue}
 use lib.Ieee.Scale.{finite}
 use Rattle.floats.proofs.Rise.{Under, round-under, div-under}
 use Rattle.floats.proofs.Ranks.{Number}
 use Rattle.floats.proofs.Ints.{minus, whole-value, i32-small}
 use Rattle.boxes.specs.Quads.{middle}
+
+-- ---- what the format says of its values
+pub in-format : (s : Bool) (m : ℕ) (e : ℤ) → T (fits binary64 (fin s (suc m) e)) → (suc m < 2 ^ 53) × (down e ≤ 2 ^ 1074) × (suc m * up e < 2 ^ 1024 * down e)
+unfolding fits
+in-format s m e h =
+    let odd = eqb (suc m % 2) 1 in
+    let short = ltb (suc m) (2 ^ 53) in
+    let fine = leb (down e) (2 ^ 1074) in
+    let low = ltb (suc m * up e) (2 ^ 1024 * down e) in
+    let k = and-l (odd && short && fine) low h in (
+      ltb→lt (suc m) (2 ^ 53) (and-r odd short (and-l (odd && short) fine k)),
+      leb→le (down e) (2 ^ 1074) (and-r (odd && short) fine k),
+      ltb→lt (suc m * up e) (2 ^ 1024 * down e) (and-r (odd && short && fine) low h),
+    )
 
 -- ---- the size of a sum is at most the sum of the sizes, rounded
 pub sum-under : (s t : Bool) (a b c n : ℕ) → 0 < c → a + b ≤ n * c → Under (sum binary64 s a t b c) (round binary64 false n 1)
@@ -72,7 +86,7 @@ add-under (fin s m e) (fin t n d) p q = sum-under s t (m * up e * down d) (n * u
     both : (x e y d : ℕ) → x * 1 ≤ 2 ^ 31 * e → y * 1 ≤ 2 ^ 31 * d → x * d + y * e ≤ 2 ^ 32 * (e * d)
     both x e y d p q = omega (arith, mul-le-mul-right d p, mul-le-mul-right e q)
 
-two : ofBits binary64 0x4000_0000_0000_0000 ≡ fin false 1 (pos 1)
+pub two : ofBits binary64 0x4000_0000_0000_0000 ≡ fin false 1 (pos 1)
 unfolding ofBits
 two = refl
 

@@ -1,6 +1,6 @@
 -- Stored points and segments as floats, which hold every i32.
-use lib.Ieee.{binary64, ofInt}
-use Rattle.floats.specs.Values.{lesserOf, greaterOf}
+use mathlib.Core.Bool.{cond}
+use lib.Ieee.{Float, binary64, ofInt, lt}
 use Rattle.boxes.specs.declared.Point.{Point}
 use Rattle.boxes.specs.declared.I32Point.{I32Point}
 use Rattle.boxes.specs.declared.Rect.{Rect}
@@ -10,12 +10,18 @@ use Rattle.boxes.specs.declared.Segment.{Segment}
 abbrev pub pointOf : I32Point → Point
 pointOf p = record { x = ofInt binary64 (p .x); y = ofInt binary64 (p .y) }
 
+abbrev pub lesser : Float → Float → Float
+lesser x y = cond (lt x y) x y
+
+abbrev pub greater : Float → Float → Float
+greater x y = cond (lt x y) y x
+
 -- the segment's box: the lesser and the greater of the ends
 abbrev pub rectOf : Segment → Rect
 rectOf s =
     let a = pointOf (s .a) in
     let b = pointOf (s .b) in
     record {
-      min = record { x = lesserOf (a .x) (b .x); y = lesserOf (a .y) (b .y) };
-      max = record { x = greaterOf (a .x) (b .x); y = greaterOf (a .y) (b .y) };
+      min = record { x = lesser (a .x) (b .x); y = lesser (a .y) (b .y) };
+      max = record { x = greater (a .x) (b .x); y = greater (a .y) (b .y) };
     }

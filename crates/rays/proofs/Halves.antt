@@ -1,16 +1,16 @@
 -- Between two whole numbers of size below 2 ^ 52 there is a float, the lower one and a half, so that neither is the next float up from the other.
 -- Assumes nothing.
-use mathlib.Core.Path.{_≡_, refl, sym, ap, _∙_, subst}
+use mathlib.Core.Path.{_≡_, refl, sym, ap, _∙_}
 use Prim.Native.Nat.{ℕ, suc, _+_, _*_, _^_, _≤_, _<_}
 use native.Mathlib.Nat.{mul-pos, mul-assoc, mul-comm, mul-left-comm, mul-lt-mul-of-pos-right, lt-of-mul-lt-mul-right, add-mul, zero-mul, zero-lt-suc, lt-trans}
 use native.Mathlib.Omega.{arith}
 use mathlib.Core.Bool.{Bool, true, false}
 use lib.IntN.{ℤ, pos, negsuc, natAbs}
 use lib.Signed.{ltZ, mag}
-use lib.Dec.{T, ltb, ltb→lt, lt→ltb, lit<}
+use lib.Dec.{T, ltb→lt, lt→ltb, lit<}
 use lib.Pow.{shl-lt, pow-lt}
 use lib.Ieee.{Float, nan, inf, fin, binary64, up, down, round, ofInt, lt, isNan, below}
-use lib.Ieee.Fits.{down-pos, round-fits, ofInt-fits}
+use lib.Ieee.Fits.{down-pos, round-fits}
 use lib.Ieee.Exact.{HasValue, round-exact}
 use Rattle.floats.proofs.Least.{rank}
 use Rattle.floats.proofs.Ranks.{Number, lt-is}

@@ -4,11 +4,11 @@ use mathlib.Core.Path.{_≡_, refl, sym, ap, _∙_, subst}
 use Prim.Native.Nat.{ℕ, _^_, _≤_, _<_}
 use native.Mathlib.Nat.{le-of-eq, le-of-lt}
 use native.Mathlib.Omega.{arith}
-use mathlib.Core.Bool.{Bool, true, false, not, _&&_, _||_, and-false, true≢false}
+use mathlib.Core.Bool.{Bool, true, false, _&&_, _||_, and-false, true≢false}
 use lib.Dec.{T, ltb, leb, eqb}
 use lib.IntN.{natAbs}
 use borrow.Author.Tests.{ltb-true, ltb-false, le-leb, lt-ltb, le-ltb, ne-eqb, eqb-true, eqb-false, eq-eqb}
-use lib.Ieee.{Float, nan, inf, fin, binary64, fits, eq, ne, lt, le, ofInt}
+use lib.Ieee.{Float, nan, inf, fin, binary64, fits, eq, ne, lt}
 use lib.Ieee.Scale.{finite}
 use Rattle.boxes.specs.declared.Point.{Point}
 use Rattle.boxes.specs.declared.Segment.{Segment}
@@ -137,6 +137,7 @@ module _ (a b p : Point) (na : Number (a .y)) (nb : Number (b .y)) (np : Number 
 -- ---- of a stored segment: `within` of its heights is what holds y in its closed height range
 pub out-of-range : (s : Segment) (p : Point) → Stored s → T (fits binary64 (p .x)) → T (finite (p .x)) → Number (p .y)
     → within (pointOf (s .a) .y) (pointOf (s .b) .y) (p .y) ≡ false → raycastOf s p ≡ Neither
+unfolding raycastOf
 out-of-range s p z f x y h = go (eq (pointOf (s .a) .y) (pointOf (s .b) .y)) refl
   where
     ax : natAbs (s .a .x) < 2 ^ 52

@@ -1,18 +1,18 @@
 -- Where the ends' x differ, step 4's first quotient is finite for every finite p.x; where their heights are equal, its second is not. Assumes nothing.
 use mathlib.Core.Path.{_≡_, refl, sym, ap, _∙_, subst}
-use Prim.Native.Nat.{ℕ, zero, suc, _+_, _-_, _*_, _%_, _^_, _≤_, _<_, zero-le}
-use native.Mathlib.Nat.{le-refl, le-trans, le-of-eq, le-of-lt, mul-pos, mul-one, one-mul, mul-assoc, mul-comm, mul-right-comm, mul-le-mul, mul-le-mul-right, mul-le-mul-left, lt-of-mul-lt-mul-right, add-mul, zero-mul, zero-lt-suc, sub-add-cancel, le-mul-of-pos-right, le-of-mul-le-mul-right, mul-sub}
+use Prim.Native.Nat.{ℕ, zero, suc, _+_, _-_, _*_, _^_, _≤_, _<_, zero-le}
+use native.Mathlib.Nat.{le-refl, le-trans, le-of-eq, le-of-lt, mul-pos, mul-one, mul-assoc, mul-comm, mul-le-mul, mul-le-mul-right, mul-le-mul-left, lt-of-mul-lt-mul-right, add-mul, zero-mul, zero-lt-suc, sub-add-cancel, le-mul-of-pos-right, le-of-mul-le-mul-right, mul-sub}
 use native.Mathlib.Omega.{arith}
-use mathlib.Core.Bool.{Bool, true, false, not, _&&_, _||_, Bool·beq, cond, true≢false}
+use mathlib.Core.Bool.{Bool, true, false, not, _&&_, cond, true≢false}
 use lib.IntN.{ℤ, pos, negsuc, natAbs}
-use lib.Dec.{T, ltb, leb, eqb, ltb→lt, eqb→eq, eqb·suc-zero}
+use lib.Dec.{T, ltb, leb, eqb, eqb→eq, eqb·suc-zero}
 use lib.Pow.{pow-add, pow-mono, pow-pos}
-use borrow.Author.Tests.{leb-true, leb-false, ltb-true, ltb-false, eqb-true, eqb-false}
+use borrow.Author.Tests.{leb-true, leb-false, ltb-true, ltb-false, eqb-false}
 use lib.Ieee.{Float, nan, inf, fin, binary64, unlike, up, down, round, sum, sub, div, fits, eq, level, ofInt}
-use lib.Ieee.Fits.{up-pos, down-pos, and-l, and-r, sub-fits, ofInt-fits}
+use lib.Ieee.Fits.{up-pos, down-pos, and-l, and-r, sub-fits}
 use lib.Ieee.Exact.{HasValue, round-exact}
 use lib.Ieee.Scale.{finite, round-same}
-use Rattle.boxes.proofs.Sizes.{sum-under, under-finite}
+use Rattle.boxes.proofs.Sizes.{in-format, sum-under, under-finite}
 use Rattle.floats.proofs.Rise.{round-under}
 use Rattle.rays.specs.Raycast.{quotient}
 use Rattle.rays.proofs.Halves.{in-reach}
@@ -39,21 +39,12 @@ top-of m k p l small h = go (leb k l) refl
         let less : m * 2 ^ j < 2 ^ p = lt-of-mul-lt-mul-right (2 ^ l) (rw (← whole, ← pow-add 2 p l) h) in
         rw whole (mul-le-mul-right (2 ^ l) (pred-of (m * 2 ^ j) (2 ^ p) less))
 
-in-format : (s : Bool) (m : ℕ) (e : ℤ) → T (fits binary64 (fin s (suc m) e)) → (suc m < 2 ^ 53) × (suc m * up e < 2 ^ 1024 * down e)
-unfolding fits
-in-format s m e h =
-    let odd = eqb (suc m % 2) 1 in
-    let short = ltb (suc m) (2 ^ 53) in
-    let fine = leb (down e) (2 ^ 1074) in
-    let low = ltb (suc m * up e) (2 ^ 1024 * down e) in
-    (ltb→lt (suc m) (2 ^ 53) (and-r odd short (and-l (odd && short) fine (and-l (odd && short && fine) low h))), ltb→lt (suc m * up e) (2 ^ 1024 * down e) (and-r (odd && short && fine) low h))
-
 at-most : (s : Bool) (m : ℕ) (e : ℤ) → T (fits binary64 (fin s m e)) → m * up e ≤ MAX * down e
 unfolding MAX
 at-most s zero e h = rw (zero-mul (up e)) zero-le
 at-most s (suc m) (pos k) h =
     let b = in-format s m (pos k) h in
-    rw (mul-one MAX) (top-of (suc m) k 53 971 (b .0) (rw (mul-one (2 ^ 1024)) at (b .1)))
+    rw (mul-one MAX) (top-of (suc m) k 53 971 (b .0) (rw (mul-one (2 ^ 1024)) at (b .2)))
 at-most s (suc m) (negsuc k) h =
     le-trans (le-of-eq (mul-one (suc m)))
     (le-trans (small (suc m) (2 ^ 53) (in-format s m (negsuc k) h .0))

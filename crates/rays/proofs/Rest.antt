@@ -1,10 +1,10 @@
 -- Step 5's loop ends, after at most one move, where the ends are whole numbers of size below 2 ^ 52; where it rests is one place only. So the eight
 -- steps have an answer, and one only. Assumes nothing.
 use mathlib.Core.Path.{_≡_, refl, sym, ap, _∙_, subst}
-use mathlib.Core.Logic.{_⊎_, inl, inr}
-use Prim.Native.Nat.{ℕ, zero, suc, _^_, _≤_, _<_}
+use mathlib.Core.Logic.{inl, inr}
+use Prim.Native.Nat.{ℕ, suc, _^_, _≤_, _<_}
 use native.Mathlib.Omega.{arith}
-use mathlib.Core.Bool.{Bool, true, false, _||_, true≢false}
+use mathlib.Core.Bool.{Bool, true, false, true≢false}
 use lib.Dec.{T}
 use lib.IntN.{ℤ, natAbs}
 use lib.Ieee.{Float, nan, inf, fin, binary64, eq, lt, fits, ofInt}
@@ -14,6 +14,7 @@ use Rattle.boxes.specs.declared.Point.{Point}
 use Rattle.boxes.specs.declared.Segment.{Segment}
 use Rattle.boxes.specs.Segments.{pointOf}
 use Rattle.floats.specs.Next.{nextUp}
+use Rattle.floats.proofs.Parts.{or-split}
 use Rattle.floats.proofs.Least.{rank, eq-rank, next-rank, next-fits}
 use Rattle.floats.proofs.Ints.{minus, whole-value}
 use Rattle.rays.specs.declared.RaycastResult.{RaycastResult}
@@ -34,11 +35,6 @@ raycast-unique {s} {p} h k =
     ∙ sym (k .says)
 
 -- ---- one move
-or-split : (a b : Bool) → (a || b) ≡ true → T a ⊎ T b
-or-split true b t = inl tt
-or-split false true t = inr tt
-or-split false false t = absurd (true≢false (sym t))
-
 -- what equals a finite value is below +infinity
 below-top : (x y : Float) (s : Bool) (a c : ℕ) → HasValue y s a c → T (eq x y) → T (lt x (inf false))
 unfolding eq lt
@@ -60,10 +56,10 @@ moved z w Z W y f e g =
 
 module _ (a b : ℤ) (A : natAbs a < 2 ^ 52) (B : natAbs b < 2 ^ 52) (y : Float) (f : T (fits binary64 y)) where
   once : atEnd (ofInt binary64 a) (ofInt binary64 b) y ≡ true → atEnd (ofInt binary64 a) (ofInt binary64 b) (nextUp y) ≡ true → ⊥
-  once h k = elim (or-split (eq y (ofInt binary64 a)) (eq y (ofInt binary64 b)) h) [ inl e ↦ from a A e | inr e ↦ from b B e ]
+  once h k = elim (or-split (eq y (ofInt binary64 a)) (eq y (ofInt binary64 b)) (subst T (sym h) tt)) [ inl e ↦ from a A e | inr e ↦ from b B e ]
     where
       from : (z : ℤ) → natAbs z < 2 ^ 52 → T (eq y (ofInt binary64 z)) → ⊥
-      from z Z e = elim (or-split (eq (nextUp y) (ofInt binary64 a)) (eq (nextUp y) (ofInt binary64 b)) k) [ inl g ↦ moved z a Z A y f e g | inr g ↦ moved z b Z B y f e g ]
+      from z Z e = elim (or-split (eq (nextUp y) (ofInt binary64 a)) (eq (nextUp y) (ofInt binary64 b)) (subst T (sym k) tt)) [ inl g ↦ moved z a Z A y f e g | inr g ↦ moved z b Z B y f e g ]
 
   -- the loop ends: the number of moves is at most one
   pub rests : (n : ℕ) × (n ≤ 1) × Rests (ofInt binary64 a) (ofInt binary64 b) n y (lift (ofInt binary64 a) (ofInt binary64 b) y)
@@ -75,8 +71,15 @@ module _ (a b : ℤ) (A : natAbs a < 2 ^ 52) (B : natAbs b < 2 ^ 52) (y : Float)
       go true false p q = (1, omega arith, move p (rest q))
       go true true p q = absurd (once p q)
 
+-- and whenever it comes to rest, it has moved at most once
+pub at-most-once : (a b : ℤ) → natAbs a < 2 ^ 52 → natAbs b < 2 ^ 52 → {n : ℕ} {y z : Float} → T (fits binary64 y) → Rests (ofInt binary64 a) (ofInt binary64 b) n y z → n ≤ 1
+at-most-once a b A B f (rest e) = omega arith
+at-most-once a b A B f (move e (rest g)) = omega arith
+at-most-once a b A B {y} f (move e (move g r)) = absurd (once a b A B y f e g)
+
 -- the computed answer is the one that the eight steps give
 pub answers : (s : Segment) (p : Point) (r : RaycastResult) → natAbs (s .a .y) < 2 ^ 52 → natAbs (s .b .y) < 2 ^ 52 → T (fits binary64 (p .y)) → r ≡ raycastOf s p → Raycast s p r
+unfolding raycastOf
 answers s p r A B f e =
     let found = rests (s .a .y) (s .b .y) A B (p .y) f in
     record { moves = found .0; height = lift (pointOf (s .a) .y) (pointOf (s .b) .y) (p .y); rests = found .2; says = e }

@@ -3,7 +3,7 @@ use mathlib.Core.Path.{_≡_, refl}
 use mathlib.Core.Bool.{true, false}
 use mathlib.Core.List.{List, [], _∷_}
 use lib.IntN.{ℤ, pos, negsuc}
-use lib.Ieee.{Float, nan, inf, fin, binary64, ofInt, ofBits, toBits, sub, div, lt, le, eq, ne, isNan}
+use lib.Ieee.{nan, inf, fin, binary64, ofInt, ofBits, toBits, sub, div, lt, le, eq, ne, isNan}
 use Rattle.floats.specs.Next.{nextUp}
 use Rattle.boxes.specs.declared.Point.{Point}
 use Rattle.boxes.specs.declared.Segment.{Segment}
@@ -28,34 +28,34 @@ sides p =
 
 -- S holds (5,5): one flip
 in-S : sides (whole (pos 5) (pos 5)) ≡ Neither ∷ Inside ∷ Neither ∷ Neither ∷ []
-unfolding firstSteps lastSteps nextUp ofInt ofBits toBits sub div lt le eq ne isNan
+unfolding raycastOf firstSteps lastSteps nextUp ofInt ofBits toBits sub div lt le eq ne isNan
 in-S = refl
 
 -- (11,5) is out: none
 out-of-S : sides (whole (pos 11) (pos 5)) ≡ Neither ∷ Neither ∷ Neither ∷ Neither ∷ []
-unfolding firstSteps lastSteps nextUp ofInt ofBits toBits sub div lt le eq ne isNan
+unfolding raycastOf firstSteps lastSteps nextUp ofInt ofBits toBits sub div lt le eq ne isNan
 out-of-S = refl
 
 -- (0,5) is on the last side
 on-S : sides (whole (pos 0) (pos 5)) ≡ Neither ∷ Inside ∷ Neither ∷ On ∷ []
-unfolding firstSteps lastSteps nextUp ofInt ofBits toBits sub div lt le eq ne isNan
+unfolding raycastOf firstSteps lastSteps nextUp ofInt ofBits toBits sub div lt le eq ne isNan
 on-S = refl
 
 -- left of S at the height of a corner: step 5 moves up, so each of the two upright sides counts once
 corner-of-S : sides (whole (negsuc 0) (pos 0)) ≡ Neither ∷ Inside ∷ Neither ∷ Inside ∷ []
-unfolding firstSteps lastSteps nextUp ofInt ofBits toBits sub div lt le eq ne isNan
+unfolding raycastOf firstSteps lastSteps nextUp ofInt ofBits toBits sub div lt le eq ne isNan
 corner-of-S = refl
 
 -- a NaN is neither below nor above: steps 1 and 6 let it pass
 nan-height : raycastOf (segment (pos 0) (pos 0) (pos 0) (pos 1)) (at (ofInt binary64 (negsuc 0)) nan) ≡ Inside
-unfolding firstSteps lastSteps nextUp ofInt ofBits toBits sub div lt le eq ne isNan
+unfolding raycastOf firstSteps lastSteps nextUp ofInt ofBits toBits sub div lt le eq ne isNan
 nan-height = refl
 
 -- step 4 finds equal quotients beyond the segment: two infinities, and two zeros by underflow
 far-on : raycastOf (segment (pos 0) (pos 0) (pos 1) (pos 0)) (at (inf false) (ofInt binary64 (pos 1))) ≡ On
-unfolding firstSteps lastSteps nextUp ofInt ofBits toBits sub div lt le eq ne isNan
+unfolding raycastOf firstSteps lastSteps nextUp ofInt ofBits toBits sub div lt le eq ne isNan
 far-on = refl
 
 small-on : raycastOf (segment (pos 0) (pos 0) (pos 2) (pos 1)) (at (fin true 1 (negsuc 1073)) (ofInt binary64 (pos 0))) ≡ On
-unfolding firstSteps lastSteps nextUp ofInt ofBits toBits sub div lt le eq ne isNan
+unfolding raycastOf firstSteps lastSteps nextUp ofInt ofBits toBits sub div lt le eq ne isNan
 small-on = refl

@@ -85,5 +85,5 @@ lift a b y = if atEnd a b y then nextUp y else y
 abbrev pub castOf : Point → Point → Point → RaycastResult
 castOf a b p = firstSteps a b p (lastSteps a b (at (p .x) (lift (a .y) (b .y) (p .y))))
 
-abbrev pub raycastOf : Segment → Point → RaycastResult
+unfoldable pub raycastOf : Segment → Point → RaycastResult
 raycastOf s p = castOf (pointOf (s .a)) (pointOf (s .b)) p

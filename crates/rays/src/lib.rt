@@ -4,8 +4,8 @@
 use boxes::Point;
 use boxes::Segment;
 ghost use mathlib.Core.Path.{_≡_};
-ghost use mathlib.Core.Bool.{_&&_, _||_};
-ghost use lib.Ieee.{lt, le, eq};
+ghost use mathlib.Core.Bool.{_&&_};
+ghost use lib.Ieee.{eq};
 ghost use Rattle.rays.specs.Raycast.{if_then_else_, at, within, steep, lastSteps, lift, castOf, Raycast, raycastOf};
 ghost use Rattle.rays.specs.declared.RaycastResult.the-variants.{Inside, Neither};
 
@@ -15,18 +15,12 @@ pub enum RaycastResult {
     Neither,
 }
 
-fn in_range(a: f64, b: f64, v: f64) -> bool
-    ensures { λ r. ⌜ r ≡ within a b v ⌝ }
-{
-    ((a <= v) & (v <= b)) | ((b <= v) & (v <= a))
-}
-
 // Steps 2 and 3: ends and point agree in one coordinate, and in the other the point is in the ends' range.
 fn along(a: f64, b: f64, p: f64, c: f64, d: f64, q: f64) -> bool
     ensures { λ r. ⌜ r ≡ (eq a b && eq p a && within c d q) ⌝ }
 {
     if (a == b) & (p == a) {
-        in_range(c, d, q)
+        ((c <= q) & (q <= d)) | ((d <= q) & (q <= c))
     } else {
         false
     }

@@ -9,6 +9,7 @@ use Rattle.rays.proofs.raycast.Statement.{statement}
 use Rattle.rays.proofs.raycast.Tie as tie
 
 returns : tie.Need-returns
+unfolding raycastOf
 returns c =
     let start = c .before .before .before in
     let seg = start .args .seg in
