@@ -1,5 +1,5 @@
-pub mod Keep
 pub mod Whole
 pub mod Checks
 pub mod Sizes
 pub mod RingTest
+pub mod Listing

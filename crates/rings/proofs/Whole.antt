@@ -191,3 +191,18 @@ eqZ-refl (negsuc n) = eq-eqb n n refl
 
 pub diff-inj : (p n q m : ℕ) → diff p n ≡ diff q m → p + m ≡ q + n
 diff-inj p n q m e = eqb-true (p + m) (q + n) (sym (diff-eqZ p n q m) ∙ ap (λ (z : ℤ). eqZ z (diff q m)) e ∙ eqZ-refl (diff q m))
+
+-- the parts of a whole number above and below 0
+pub up : ℤ → ℕ
+up (pos n) = n
+up (negsuc n) = 0
+
+pub down : ℤ → ℕ
+down (pos n) = 0
+down (negsuc n) = suc n
+
+-- so an identity of whole numbers is one of ℕ: `rw (split a, split b)`, then the laws above, then `diff-same` and `omega`
+pub split : (z : ℤ) → z ≡ diff (up z) (down z)
+unfolding up down
+split (pos n) = sym (diff-pos n 0 n (omega arith))
+split (negsuc n) = sym (diff-negsuc 0 (suc n) n (omega arith))

@@ -1,4 +1,4 @@
-pub mod Keep
 pub mod Ring
 pub mod RingTest
 pub mod Checks
+pub mod Listing

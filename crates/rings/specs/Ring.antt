@@ -7,7 +7,7 @@ use lib.IntN.{ℤ, pos}
 use lib.Ieee.{Float, binary64, ofInt, le}
 use Rattle.boxes.specs.declared.I32Point.{I32Point}
 use Rattle.boxes.specs.declared.Segment.{Segment}
-use Rattle.rings.specs.Keep.{upTo}
+use Rattle.room.specs.Numbers.{upTo}
 
 abbrev pub pointAt : List ℤ → ℕ → I32Point
 pointAt ring i = record { x = getD ring (i * 2) (pos 0); y = getD ring (i * 2 + 1) (pos 0) }

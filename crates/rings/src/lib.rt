@@ -2,10 +2,15 @@
 use answers::Refusal;
 use boxes::I32Point;
 use boxes::Segment;
+use floats::is_finite;
+use room::zero_fill_u32;
+use room::zero_from_u32;
 ghost use mathlib.Core.Path.{_≡_};
 ghost use Prim.Native.Nat.{_+_, _*_, _<_, _≤_};
 ghost use lib.ListN.{length};
-ghost use Rattle.rings.specs.Ring.{segmentAt};
+ghost use Rattle.room.specs.Numbers.{upTo};
+ghost use Rattle.rings.specs.Ring.{segmentAt, holdsHeight};
+ghost use Rattle.rings.specs.Listing.{listedIn, scanned};
 ghost use Rattle.rings.specs.Checks.{closed, withinLimit, allWithin, ringChecked, gridChecked};
 
 // A ring's points are lent as a slice of numbers, so the type holds nothing but the limits of a ring.
@@ -24,6 +29,12 @@ impl Ring {
 pub enum Checked {
     Sound,
     Faulty(Refusal),
+}
+
+// What a listing call answers: how many numbers it listed, or a refusal.
+pub enum Listed {
+    Count(usize),
+    Unlisted(Refusal),
 }
 
 // Segment i, from point i to point i + 1. For the crates above, which have checked the ring.
@@ -107,5 +118,56 @@ pub fn check_grid_ring(coords: &[i32], points: usize) -> Checked
             }
         }
         Checked::Faulty(_) => first,
+    }
+}
+
+// Whether the closed height range of segment i holds y. For the crates above, which have checked the ring.
+pub fn holds_height(coords: &[i32], i: usize, y: f64) -> bool
+    requires { ⌜ i * 2 + 3 < length (now coords) ⌝ }
+    ensures { λ r. ⌜ r ≡ holdsHeight (segmentAt (now (coords .entry)) i) y ⌝ }
+{
+    let a = coords[i * 2 + 1] as f64;
+    let b = coords[i * 2 + 3] as f64;
+    ((a <= y) & (y <= b)) | ((b <= y) & (y <= a))
+}
+
+// The numbers of those among n segments whose height range holds y, into room that holds zeros.
+fn list(coords: &[i32], n: usize, y: f64, out: &mut [u32]) -> Listed
+    requires { ⌜ (n ≤ 4096) × (n * 2 + 2 ≤ length (now coords)) ⌝ }
+    ensures { λ r. ⌜ listedIn (upTo (λ i. holdsHeight (segmentAt (now (coords .entry)) i) y) n 0) (now (out .entry)) ≡ (r, now (out .exit)) ⌝ }
+{
+    zero_fill_u32(out);
+    let mut k: usize = 0;
+    let mut i: usize = 0;
+    while i < n {
+        if holds_height(coords, i, y) {
+            if out.len() <= k {
+                zero_from_u32(out, 0);
+                return Listed::Unlisted(Refusal::NoRoom);
+            }
+            out[k] = i as u32;
+            k += 1;
+            i += 1;
+        } else {
+            i += 1;
+        }
+    }
+    Listed::Count(k)
+}
+
+// Listing by scan.
+pub fn scan(coords: &[i32], points: usize, y: f64, out: &mut [u32]) -> Listed
+    ensures { λ r. ⌜ scanned (now (coords .entry)) points y (now (out .entry)) ≡ (r, now (out .exit)) ⌝ }
+{
+    let checked = check_ring(coords, points);
+    match checked {
+        Checked::Sound => {
+            if is_finite(y) {
+                list(coords, points - 1, y, out)
+            } else {
+                Listed::Unlisted(Refusal::BadHeight)
+            }
+        }
+        Checked::Faulty(why) => Listed::Unlisted(why),
     }
 }

@@ -10,7 +10,7 @@ use mir.Syntax.{w64}
 use mir.Val.{toZ, ofZ}
 use mir.Facts.{toZ-ofZ}
 use borrow.Author.Needs.{needs}
-use Rattle.rings.specs.Keep.{upTo}
+use Rattle.room.specs.Numbers.{upTo}
 use Rattle.rings.specs.RingTest.{testFrom}
 use Rattle.rings.proofs.RingTest.{test-done, test-on, test-flip, test-pass}
 use Rattle.rings.specs.Checks.{allWithin}
