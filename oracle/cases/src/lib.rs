@@ -7,13 +7,16 @@
 //!
 //! Nothing here knows either side: no file of geometry-rs and no Rattle function is used.
 
+pub mod boxes;
 pub mod damage;
 pub mod floats;
+pub mod lent;
 pub mod limits;
 pub mod outlines;
 pub mod points;
 pub mod random;
 pub mod rings;
+pub mod segments;
 pub mod varints;
 
 pub use random::Random;

@@ -22,7 +22,7 @@ pub const ODD: [f64; 12] = [
     -9_223_372_036_854_775_808.0,
 ];
 
-fn place(c: Corner) -> Place {
+pub fn place(c: Corner) -> Place {
     c.map(f64::from)
 }
 

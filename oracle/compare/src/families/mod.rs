@@ -1,6 +1,8 @@
 //! The families of questions, one file for each layer of the library.
 
+mod boxes;
 mod numbers;
+mod segments;
 mod varints;
 
 use crate::report::Plan;
@@ -8,4 +10,21 @@ use crate::report::Plan;
 /// A family's name and what runs it; true where nothing is amiss.
 pub type Run = (&'static str, fn(Plan) -> bool);
 
-pub const ALL: &[&[Run]] = &[numbers::FAMILIES, varints::FAMILIES];
+pub const ALL: &[&[Run]] = &[numbers::FAMILIES, varints::FAMILIES, boxes::FAMILIES, segments::FAMILIES];
+
+/// The bits; no bits for a NaN, which is one value whatever its bits.
+fn bits(x: f64) -> Option<u64> {
+    (!x.is_nan()).then(|| x.to_bits())
+}
+
+fn all_bits<const N: usize>(row: [f64; N]) -> [Option<u64>; N] {
+    row.map(bits)
+}
+
+fn shown(x: f64) -> String {
+    format!("{x:e} (bits {:016x})", x.to_bits())
+}
+
+fn all_shown(row: &[f64]) -> String {
+    row.iter().map(|&x| shown(x)).collect::<Vec<_>>().join(", ")
+}

@@ -1,7 +1,7 @@
 //! Next up, floor, rounding and root, on every edge and on random bit patterns. A NaN is one value,
 //! whatever its bits.
 
-use crate::families::Run;
+use super::{bits, shown, Run};
 use crate::ours;
 use crate::report::{Family, Plan};
 use cases::{floats, Random};
@@ -107,13 +107,4 @@ fn pairs(plan: Plan, name: &'static str, ours: fn(f64, f64) -> f64, theirs: fn(f
         ask(x, y);
     }
     family.end()
-}
-
-/// The bits; no bits for a NaN.
-fn bits(x: f64) -> Option<u64> {
-    (!x.is_nan()).then(|| x.to_bits())
-}
-
-fn shown(x: f64) -> String {
-    format!("{x:e} (bits {:016x})", x.to_bits())
 }

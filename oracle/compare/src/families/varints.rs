@@ -1,6 +1,6 @@
 //! Reading and writing of varints.
 
-use crate::families::Run;
+use super::Run;
 use crate::ours;
 use crate::report::{Family, Plan};
 use cases::varints::{self, Read, Write};
@@ -14,7 +14,7 @@ pub const FAMILIES: &[Run] = &[("read_uvarint", read), ("append_uvarint", append
 fn read(plan: Plan) -> bool {
     let mut family = Family::new("read_uvarint", &[]);
     let mut ask = |q: Read| {
-        let theirs = open::read_uvarint(&q.bytes[..q.end], q.at).ok_or((9, q.at));
+        let theirs = open::read_uvarint(&q.bytes[..q.end], q.at).ok_or((9, q.at as u64));
         family.same(ours::read_uvarint(&q.bytes, q.at, q.end), theirs, || format!("{q:x?}"));
         // an end past the bytes counts as their end
         if q.end == q.bytes.len() {

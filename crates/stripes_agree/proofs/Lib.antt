@@ -1,0 +1,5 @@
+pub mod Span
+pub mod Ends
+pub mod Found
+pub mod Demand
+pub mod AsScan

@@ -1,0 +1,1 @@
+// No code: the laws that tie building and searching stripes together stand in proofs/.

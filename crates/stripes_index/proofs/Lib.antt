@@ -1,0 +1,7 @@
+pub mod Joined
+pub mod Pairs
+pub mod Turns
+pub mod Entering
+pub mod Crossing
+pub mod Starts
+pub mod Entries

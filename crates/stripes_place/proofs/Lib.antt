@@ -1,0 +1,2 @@
+pub mod Mono
+pub mod Samples

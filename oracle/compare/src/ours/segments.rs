@@ -1,0 +1,62 @@
+use super::{said, Refusal};
+use cases::lent::Lent;
+use cases::segments::Ends;
+use model::ring::Ray;
+
+mod c {
+    extern "C" {
+        pub fn probe_raycast(ax: i32, ay: i32, bx: i32, by: i32, x: f64, y: f64) -> u32;
+        #[rustfmt::skip]
+        pub fn probe_grid_test(
+            ax: i32,
+            ay: i32,
+            bx: i32,
+            by: i32,
+            x: i64,
+            y: i64,
+            place: &mut usize,
+            said: &mut u32,
+        ) -> u32;
+        #[rustfmt::skip]
+        pub fn probe_grid_ring(
+            coords: *const i32,
+            len: usize,
+            points: usize,
+            x: i64,
+            y: i64,
+            edge: bool,
+            place: &mut usize,
+            said: &mut u32,
+        ) -> u32;
+    }
+}
+
+fn ray(number: u32) -> Ray {
+    match number {
+        0 => Ray::Neither,
+        1 => Ray::Inside,
+        2 => Ray::On,
+        _ => unreachable!("a test of a segment says 0, 1 or 2"),
+    }
+}
+
+/// A call with a refusal's place and one number more.
+fn told(call: impl FnOnce(&mut usize, &mut u32) -> u32) -> Result<u32, Refusal> {
+    let (mut place, mut with) = (usize::MAX, u32::MAX);
+    let number = call(&mut place, &mut with);
+    said(number, place, with)
+}
+
+pub fn raycast([a, b]: Ends, [x, y]: [f64; 2]) -> Ray {
+    ray(unsafe { c::probe_raycast(a[0], a[1], b[0], b[1], x, y) })
+}
+
+pub fn grid_test([a, b]: Ends, [x, y]: [i64; 2]) -> Result<Ray, Refusal> {
+    told(|place, with| unsafe { c::probe_grid_test(a[0], a[1], b[0], b[1], x, y, place, with) }).map(ray)
+}
+
+pub fn grid_ring(ring: &Lent, [x, y]: [i64; 2], edge: bool) -> Result<bool, Refusal> {
+    let Lent { coords, points } = ring;
+    told(|place, with| unsafe { c::probe_grid_ring(coords.as_ptr(), coords.len(), *points, x, y, edge, place, with) })
+        .map(|yes| yes == 1)
+}
