@@ -13,7 +13,6 @@ use lib.Ieee.{Float, nan, inf, fin, binary64, up, down, odd, ofFields, ofBits, l
 use lib.Ieee.Fits.{down-pos}
 use lib.Ieee.Bits.{nanBits-is, nanBits-above, ofBits-toBits, toBits-lt}
 use lib.Ieee.Exact.{HasValue, odd-sign}
-use Rattle.floats.specs.Next.{pickN}
 use Rattle.floats.proofs.Order.{lt-le, eq-le, lt-not-le, le-refl, le-antisym}
 
 -- 2 ^ 52, the infinity's pattern and the sign's bit
@@ -47,7 +46,7 @@ plain b h = ofBits-is b ∙ rw (lt-leb TOP b h, mod-eq-of-lt h)
 
 -- the number in units of 2 ^ -1074
 abbrev pub val : ℕ → ℕ
-val b = pickN (ltb b H) b ((H + b % H) * 2 ^ (b / H - 1))
+val b = cond (ltb b H) b ((H + b % H) * 2 ^ (b / H - 1))
 
 pub value : (b : ℕ) → b < INF → HasValue (ofBits binary64 b) false (val b) (2 ^ 1074)
 value b h = rw (plain b (wide b h)) (go (ltb b H) refl)
@@ -61,7 +60,7 @@ value b h = rw (plain b (wide b h)) (go (ltb b H) refl)
     high : (b : ℕ) → H ≤ b → b < INF → (b / H ≡ suc (b / H - 1)) × (suc (b / H - 1) < 2047)
     high b h k = (omega arith, omega arith)
 
-    go : (x : Bool) → ltb b H ≡ x → HasValue (ofFields binary64 false (b / H) (b % H)) false (pickN x b ((H + b % H) * 2 ^ (b / H - 1))) (2 ^ 1074)
+    go : (x : Bool) → ltb b H ≡ x → HasValue (ofFields binary64 false (b / H) (b % H)) false (cond x b ((H + b % H) * 2 ^ (b / H - 1))) (2 ^ 1074)
     go true e =
         let k = low b (ltb-true b H e) in
         rw (k .0, k .1, at-zero false b) (subst (λ (v : ℕ). HasValue (odd 53 false b 0 1074) false v (2 ^ 1074)) (mul-one b) (odd-sign 53 false b 0 1074))
@@ -116,7 +115,7 @@ val-lt b c h = go (ltb b H) (ltb c H) refl refl
           (le-trans (mul-le-mul-left H (pow-mono (next (b / H) (c / H) (first b k) m))) (mul-le-mul-right (2 ^ (c / H - 1)) (once c))))
     ]
 
-    go : (x y : Bool) → ltb b H ≡ x → ltb c H ≡ y → pickN x b ((H + b % H) * 2 ^ (b / H - 1)) < pickN y c ((H + c % H) * 2 ^ (c / H - 1))
+    go : (x y : Bool) → ltb b H ≡ x → ltb c H ≡ y → cond x b ((H + b % H) * 2 ^ (b / H - 1)) < cond y c ((H + c % H) * 2 ^ (c / H - 1))
     go true true p q = h
     go true false p q = over b (c % H) (2 ^ (c / H - 1)) (ltb-true b H p) (pow-pos (c / H - 1))
     go false true p q = absurd (crossing b c h (ltb-false b H p) (ltb-true c H q))
@@ -249,7 +248,7 @@ across (fin false m e) (fin false n d) p q h =
 
 -- ---- the key
 abbrev pub key : ℕ → ℕ
-key n = pickN (ltb n TOP) (TOP + n) (TOP + TOP - n)
+key n = cond (ltb n TOP) (TOP + n) (TOP + TOP - n)
 
 abbrev pub Plain : ℕ → Type 0
 Plain n = (n < TOP + TOP) × (n % TOP ≤ INF)
@@ -274,7 +273,7 @@ lt-key a b p q h = go (ltb a TOP) (ltb b TOP) refl refl h
     apart a zero k l = inl (omega arith)
     apart a (suc b) k l = inr (omega arith)
 
-    go : (x y : Bool) → ltb a TOP ≡ x → ltb b TOP ≡ y → pickN x (TOP + a) (TOP + TOP - a) < pickN y (TOP + b) (TOP + TOP - b) → T (lt (ofBits binary64 a) (ofBits binary64 b))
+    go : (x y : Bool) → ltb a TOP ≡ x → ltb b TOP ≡ y → cond x (TOP + a) (TOP + TOP - a) < cond y (TOP + b) (TOP + TOP - b) → T (lt (ofBits binary64 a) (ofBits binary64 b))
     go true true u v k = pos-lt a b (omega arith) (small b (q .1) (ltb-true b TOP v))
     go true false u v k = absurd (no a b (ltb-false b TOP v) k)
       where
@@ -312,7 +311,7 @@ eq-key a b p q h = go (ltb a TOP) (ltb b TOP) refl refl h
     same e = subst (λ (z : ℕ). T (eq (ofBits binary64 a) (ofBits binary64 z))) e
         (le-antisym (ofBits binary64 a) (ofBits binary64 a) (le-refl (ofBits binary64 a) (not-nan a p)) (le-refl (ofBits binary64 a) (not-nan a p)))
 
-    go : (x y : Bool) → ltb a TOP ≡ x → ltb b TOP ≡ y → pickN x (TOP + a) (TOP + TOP - a) ≡ pickN y (TOP + b) (TOP + TOP - b) → T (eq (ofBits binary64 a) (ofBits binary64 b))
+    go : (x y : Bool) → ltb a TOP ≡ x → ltb b TOP ≡ y → cond x (TOP + a) (TOP + TOP - a) ≡ cond y (TOP + b) (TOP + TOP - b) → T (eq (ofBits binary64 a) (ofBits binary64 b))
     go true true u v k = same (omega arith)
     go true false u v k =
         let B = ltb-false b TOP v in

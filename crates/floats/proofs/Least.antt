@@ -3,13 +3,13 @@ use mathlib.Core.Path.{_≡_, refl, sym, ap, _∙_, subst}
 use Prim.Native.Nat.{ℕ, suc, _+_, _-_, _≤_, _<_}
 use native.Mathlib.Nat.{le-of-eq, le-antisymm}
 use native.Mathlib.Omega.{arith}
-use mathlib.Core.Bool.{Bool, true, false, not}
+use mathlib.Core.Bool.{Bool, true, false, cond, not}
 use lib.Dec.{T, ltb, eqb}
 use borrow.Author.Tests.{ltb-true, ltb-false, eqb-true, eqb-false, lt-ltb, le-ltb}
 use lib.Ieee.{Float, nan, inf, binary64, isNan, fits, ofBits, toBits, lt, le, eq}
 use lib.Ieee.Bits.{ofBits-toBits, toBits-ofBits, ofBits-fits}
 use lib.Ieee.Fits.{nan-fits}
-use Rattle.floats.specs.Next.{nextUp, nextBits, pickN, pickF, Least}
+use Rattle.floats.specs.Next.{nextUp, nextBits, LeastAbove}
 use Rattle.floats.proofs.Keys.{INF, TOP, key, Plain, le-key, key-lt, lt-key, plain-bits, key-le, not-nan}
 use Rattle.floats.proofs.Next.{elsewhere}
 use Rattle.floats.proofs.Order.{eq-sym, lt-le, eq-le, le-left, le-right}
@@ -24,7 +24,7 @@ next-key n p ne = go (ltb n INF) (eqb n INF) (eqb n TOP) refl refl refl
     down-at n h = rw (le-ltb n TOP h)
 
     go : (a b c : Bool) → ltb n INF ≡ a → eqb n INF ≡ b → eqb n TOP ≡ c
-        → Plain (pickN a (n + 1) (pickN b n (pickN c 1 (n - 1)))) × (key (pickN a (n + 1) (pickN b n (pickN c 1 (n - 1)))) ≡ suc (key n))
+        → Plain (cond a (n + 1) (cond b n (cond c 1 (n - 1)))) × (key (cond a (n + 1) (cond b n (cond c 1 (n - 1)))) ≡ suc (key n))
     go true b c u v w =
         let h = ltb-true n INF u in
         ((omega arith, omega arith), rw (up-at (n + 1) (omega arith), up-at n (omega arith)) (omega arith))
@@ -61,7 +61,7 @@ next-bits x f h =
     let k = step x f h .0 in
     ap (toBits binary64) (sym (elsewhere x (nan-not-above x (inf false) h .1))) ∙ toBits-ofBits binary64 n (k .0) (subst (λ (b : Bool). T (not b)) (sym (not-nan n k)) tt)
 
-pub next-least : (x : Float) → T (fits binary64 x) → T (lt x (inf false)) → Least x (nextUp x)
+pub next-least : (x : Float) → T (fits binary64 x) → T (lt x (inf false)) → LeastAbove binary64 x (nextUp x)
 next-least x f h =
     let n = toBits binary64 x in
     let xn = nan-not-above x (inf false) h .1 in
@@ -102,6 +102,6 @@ pub next-fits : (x : Float) → T (fits binary64 (nextUp x))
 unfolding nextUp
 next-fits x = go (isNan x)
   where
-    go : (b : Bool) → T (fits binary64 (pickF b nan (ofBits binary64 (nextBits (toBits binary64 x)))))
+    go : (b : Bool) → T (fits binary64 (cond b nan (ofBits binary64 (nextBits (toBits binary64 x)))))
     go true = nan-fits binary64
     go false = ofBits-fits binary64 (nextBits (toBits binary64 x))

@@ -1,6 +1,6 @@
 -- Facts about `nextUp`. Assumes nothing.
 use mathlib.Core.Path.{_≡_, refl, sym, ap, _∙_, subst}
-use mathlib.Core.Bool.{Bool, true, false, not, _&&_}
+use mathlib.Core.Bool.{Bool, true, false, cond, not, _&&_}
 use Prim.Native.Nat.{ℕ, _+_, _-_, _%_, _≤_, _<_}
 use native.Mathlib.Omega.{arith}
 use lib.Dec.{T, ltb, eqb, ltb→lt, not-T, nltb→le}
@@ -9,7 +9,7 @@ use lib.Ieee.{Float, nan, inf, fin, binary64, isNan, ne, fits, ofBits, toBits, n
 use lib.Ieee.Scale.{finite}
 use lib.Ieee.Compare.{differs-from-itself}
 use lib.Ieee.Bits.{ofBits-toBits, toBits-lt, nanBits-is, nanBits-above}
-use Rattle.floats.specs.Next.{nextUp, nextBits, pickN}
+use Rattle.floats.specs.Next.{nextUp, nextBits}
 
 pub is-nan : (x : Float) → ne x x ≡ true → x ≡ nan
 is-nan x h = differs-from-itself x (subst T (sym h) tt)
@@ -38,7 +38,7 @@ no-nan-bits n h =
 next-plain : (n : ℕ) → n < 0x1_0000_0000_0000_0000 → Plain n → Plain (nextBits n)
 next-plain n w h = go (ltb n 0x7ff0_0000_0000_0000) (eqb n 0x7ff0_0000_0000_0000) (eqb n 0x8000_0000_0000_0000) refl refl refl
   where
-    go : (a b c : Bool) → ltb n 0x7ff0_0000_0000_0000 ≡ a → eqb n 0x7ff0_0000_0000_0000 ≡ b → eqb n 0x8000_0000_0000_0000 ≡ c → Plain (pickN a (n + 1) (pickN b n (pickN c 1 (n - 1))))
+    go : (a b c : Bool) → ltb n 0x7ff0_0000_0000_0000 ≡ a → eqb n 0x7ff0_0000_0000_0000 ≡ b → eqb n 0x8000_0000_0000_0000 ≡ c → Plain (cond a (n + 1) (cond b n (cond c 1 (n - 1))))
     go true b c p q r = omega (arith, ltb-true)
     go false true c p q r = h
     go false false true p q r = omega arith

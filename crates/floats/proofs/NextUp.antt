@@ -3,12 +3,12 @@ use mathlib.Core.Path.{_≡_, refl, sym, ap, _∙_, subst}
 use mathlib.Core.Logic.{inl, inr}
 use Prim.Native.Nat.{ℕ, zero, suc, _+_, _-_}
 use native.Mathlib.Omega.{arith}
-use mathlib.Core.Bool.{Bool, true, false}
+use mathlib.Core.Bool.{Bool, true, false, cond}
 use lib.IntN.{ℤ, pos}
 use lib.Dec.{T, ltb, eqb}
 use borrow.Author.Tests.{ltb-false, eqb-true}
 use lib.Ieee.{Float, nan, inf, fin, Format, binary64, isNan, fits, ofBits, toBits, lt, eq}
-use Rattle.floats.specs.Next.{nextUp, nextBits, pickN, NextUp, smallest, zeroOf}
+use Rattle.floats.specs.Next.{nextUp, nextBits, NextUp, smallest, zeroOf}
 use Rattle.floats.proofs.Keys.{INF, TOP}
 use Rattle.floats.proofs.Next.{at-nan}
 use Rattle.floats.proofs.Least.{next-bits, next-least, next-fits}
@@ -18,7 +18,7 @@ use Rattle.floats.proofs.Order.{le-antisym, eq-same, zero-is, zero-eith
 never-first : (n : ℕ) → nextBits n ≡ 0 → ⊥
 never-first n = go (ltb n INF) (eqb n INF) (eqb n TOP) refl refl
   where
-    go : (a b c : Bool) → ltb n INF ≡ a → eqb n INF ≡ b → pickN a (n + 1) (pickN b n (pickN c 1 (n - 1))) ≡ 0 → ⊥
+    go : (a b c : Bool) → ltb n INF ≡ a → eqb n INF ≡ b → cond a (n + 1) (cond b n (cond c 1 (n - 1))) ≡ 0 → ⊥
     go true b c u v h = omega arith
     go false true c u v h = omega (arith, eqb-true n INF v)
     go false false true u v h = omega arith

@@ -2,12 +2,12 @@
 use mathlib.Core.Path.{_≡_, refl, sym, ap, _∙_, subst}
 use Prim.Native.Nat.{ℕ, _+_, _*_, _≤_, _<_}
 use native.Mathlib.Omega.{arith}
-use mathlib.Core.Bool.{Bool, true, false, not, _&&_, _||_, or-false, true≢false}
+use mathlib.Core.Bool.{Bool, true, false, cond, not, _&&_, _||_, or-false, true≢false}
 use lib.Dec.{T}
 use borrow.Author.Tests.{ltb-true, ltb-false, eq-eqb, not-false}
 use lib.Ieee.{Float, nan, inf, fin, binary64, isNan, up, down, neg, lt, le, eq, ne, fits}
 use lib.Ieee.Bits.{is-true}
-use Rattle.floats.specs.Next.{zeroOf, pickF}
+use Rattle.floats.specs.Next.{zeroOf}
 use Rattle.floats.specs.Values.{absOf, lesserOf, greaterOf}
 use Rattle.floats.proofs.Order.{zero-either, le-refl, le-antisym, lt-le, lt-is-not-le}
 
@@ -54,7 +54,7 @@ module _ (x y : Float) (p : isNan x ≡ false) (q : isNan y ≡ false) where
   unfolding lesserOf
   lesser-le = rw (equal-self x p, or-false (lt y x)) (go (lt y x) refl)
     where
-      go : (b : Bool) → lt y x ≡ b → T (le (pickF b y x) x) × T (le (pickF b y x) y)
+      go : (b : Bool) → lt y x ≡ b → T (le (cond b y x) x) × T (le (cond b y x) y)
       go true e = (lt-le y x (subst T (sym e) tt), le-refl y q)
       go false e = (le-refl x p, not-below e)
 
@@ -62,6 +62,6 @@ module _ (x y : Float) (p : isNan x ≡ false) (q : isNan y ≡ false) where
   unfolding greaterOf
   le-greater = rw (equal-self x p, or-false (lt x y)) (go (lt x y) refl)
     where
-      go : (b : Bool) → lt x y ≡ b → T (le x (pickF b y x)) × T (le y (pickF b y x))
+      go : (b : Bool) → lt x y ≡ b → T (le x (cond b y x)) × T (le y (cond b y x))
       go true e = (lt-le x y (subst T (sym e) tt), le-refl y q)
       go false e = (le-refl x p, subst T (sym (not-false (le y x) (sym (lt-is-not-le x y p q) ∙ e))) tt)

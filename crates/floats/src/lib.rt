@@ -6,7 +6,8 @@ ghost use Rattle.floats.specs.Next.{NextUp, nextUp};
 ghost use Rattle.floats.specs.Inner.NextBits.{nextBits};
 ghost use Rattle.floats.specs.Values.{absOf, lesserOf, greaterOf};
 
-// The pattern that stands after n, no NaN's, on the way from the lowest float to the highest.
+// One step up on the pattern n of a float that is no NaN. Patterns from +0's on count up to
+// +infinity's, which stays. Those behind -0's count down, and -0 goes where +0 goes.
 fn next_bits(n: u64) -> u64
     ensures { λ r. ⌜ r ≡ nextBits n ⌝ }
 {

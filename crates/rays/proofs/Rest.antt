@@ -16,6 +16,7 @@ use Rattle.boxes.specs.Segments.{pointOf}
 use Rattle.floats.specs.Next.{nextUp}
 use Rattle.floats.proofs.Parts.{or-split}
 use Rattle.floats.proofs.Least.{rank, eq-rank, next-rank, next-fits}
+use Rattle.floats.proofs.NextUp.{next-up-meets, next-up-only}
 use Rattle.floats.proofs.Ints.{minus, whole-value}
 use Rattle.rays.specs.declared.RaycastResult.{RaycastResult}
 use Rattle.rays.specs.Raycast.{if_then_else_, at, atEnd, lift, Rests, rest, move, firstSteps, lastSteps, Raycast, raycastOf}
@@ -24,9 +25,10 @@ use Rattle.rays.proofs.Halves.{not-next, in-reach}
 -- ---- where the loop rests
 pub rests-unique : {a b : Float} {m n : ℕ} {y z w : Float} → Rests a b m y z → Rests a b n y w → z ≡ w
 rests-unique (rest e) (rest f) = refl
-rests-unique (rest e) (move f r) = absurd (true≢false (sym f ∙ e))
-rests-unique (move e r) (rest f) = absurd (true≢false (sym e ∙ f))
-rests-unique (move e r) (move f q) = rests-unique r q
+rests-unique (rest e) (move f v q) = absurd (true≢false (sym f ∙ e))
+rests-unique (move e u r) (rest f) = absurd (true≢false (sym e ∙ f))
+rests-unique {a} {b} {y = y} {z = z} (move {n = m} {y' = s} e u r) (move {y' = t} f v q) =
+    rests-unique (subst (λ (h : Float). Rests a b m h z) (next-up-only binary64 y s t u v) r) q
 
 pub raycast-unique : {s : Segment} {p : Point} {r q : RaycastResult} → Raycast s p r → Raycast s p q → r ≡ q
 raycast-unique {s} {p} h k =
@@ -68,14 +70,15 @@ module _ (a b : ℤ) (A : natAbs a < 2 ^ 52) (B : natAbs b < 2 ^ 52) (y : Float)
       go : (u v : Bool) → atEnd (ofInt binary64 a) (ofInt binary64 b) y ≡ u → atEnd (ofInt binary64 a) (ofInt binary64 b) (nextUp y) ≡ v
           → (n : ℕ) × (n ≤ 1) × Rests (ofInt binary64 a) (ofInt binary64 b) n y (if u then nextUp y else y)
       go false v p q = (0, omega arith, rest p)
-      go true false p q = (1, omega arith, move p (rest q))
+      go true false p q = (1, omega arith, move p (next-up-meets y f) (rest q))
       go true true p q = absurd (once p q)
 
 -- and whenever it comes to rest, it has moved at most once
 pub at-most-once : (a b : ℤ) → natAbs a < 2 ^ 52 → natAbs b < 2 ^ 52 → {n : ℕ} {y z : Float} → T (fits binary64 y) → Rests (ofInt binary64 a) (ofInt binary64 b) n y z → n ≤ 1
 at-most-once a b A B f (rest e) = omega arith
-at-most-once a b A B f (move e (rest g)) = omega arith
-at-most-once a b A B {y} f (move e (move g r)) = absurd (once a b A B y f e g)
+at-most-once a b A B f (move e u (rest g)) = omega arith
+at-most-once a b A B {y = y} f (move {y' = w} e u (move g v r)) =
+    absurd (once a b A B y f e (ap (λ (h : Float). atEnd (ofInt binary64 a) (ofInt binary64 b) h) (next-up-only binary64 y (nextUp y) w (next-up-meets y f) u) ∙ g))
 
 -- the computed answer is the one that the eight steps give
 pub answers : (s : Segment) (p : Point) (r : RaycastResult) → natAbs (s .a .y) < 2 ^ 52 → natAbs (s .b .y) < 2 ^ 52 → T (fits binary64 (p .y)) → r ≡ raycastOf s p → Raycast s p r

@@ -1,10 +1,11 @@
 -- `raycast`: 01's eight steps, each beside its words. "`raycast` of whole-number ends a, b and any float p. Each operation rounds once by IEEE 754;
--- comparisons with NaN are false." Every operation and comparison is lib.Ieee's.
+-- comparisons with NaN are false." Every operation and comparison is lib.Ieee's. What is to be believed is `Raycast`, which leaves room for one answer
+-- only (`raycast-unique` of proofs/Rest.antt); the end of the file computes that answer.
 use mathlib.Core.Path.{_≡_}
 use mathlib.Core.Bool.{Bool, true, false, _&&_, _||_}
 use Prim.Native.Nat.{ℕ, zero, suc}
 use lib.Ieee.{Float, binary64, le, lt, eq, ne, sub, div}
-use Rattle.floats.specs.Next.{nextUp}
+use Rattle.floats.specs.Next.{NextUp, nextUp}
 use Rattle.boxes.specs.declared.Point.{Point}
 use Rattle.boxes.specs.declared.Segment.{Segment}
 use Rattle.boxes.specs.Segments.{pointOf}
@@ -54,10 +55,10 @@ firstSteps a b p later =
 abbrev pub atEnd : Float → Float → Float → Bool
 atEnd a b y = eq y a || eq y b
 
--- From the height y the loop comes to rest at z, after so many moves.
+-- From the height y the loop comes to rest at z, after so many moves. Each is one to the next float up, as IEEE 754 has it.
 pub data Rests (a b : Float) : ℕ → Float → Float → Type 0 where
   rest : {y : Float} → atEnd a b y ≡ false → Rests a b zero y y
-  move : {n : ℕ} {y z : Float} → atEnd a b y ≡ true → Rests a b n (nextUp y) z → Rests a b (suc n) y z
+  move : {n : ℕ} {y y' z : Float} → atEnd a b y ≡ true → NextUp binary64 y y' → Rests a b n y' z → Rests a b (suc n) y z
 
 -- Steps 6 to 8, with p.y as step 5 leaves it.
 unfoldable pub lastSteps : Point → Point → Point → RaycastResult
@@ -78,7 +79,8 @@ pub record Raycast (s : Segment) (p : Point) (r : RaycastResult) : Type 0 where
   pub rests : Rests (pointOf (s .a) .y) (pointOf (s .b) .y) moves (p .y) height
   pub says : r ≡ firstSteps (pointOf (s .a)) (pointOf (s .b)) p (lastSteps (pointOf (s .a)) (pointOf (s .b)) (at (p .x) height))
 
--- The same answer, computed: between whole-number ends step 5 rests after at most one move (proofs/Rest.antt).
+-- ---- the computing form, for callers and worked cases: `answers` of proofs/Rest.antt shows that `raycastOf s p` is the answer of `Raycast s p`
+-- Between whole-number ends step 5 rests after at most one move (`rests` there), so one test and one move stand for the loop.
 abbrev pub lift : Float → Float → Float → Float
 lift a b y = if atEnd a b y then nextUp y else y
 

@@ -1,6 +1,6 @@
 // `raycast`, in the order of its eight steps. The inner promises are equalities with definitions of
 // specs/. The public one says that the answer is the eight steps', which have one answer only
-// (proofs/Rest.antt), and gives a definition that computes it.
+// (`raycast-unique` of proofs/Rest.antt), and gives a definition that computes it.
 use boxes::Point;
 use boxes::Segment;
 ghost use mathlib.Core.Path.{_≡_};
@@ -9,6 +9,7 @@ ghost use lib.Ieee.{eq};
 ghost use Rattle.rays.specs.Raycast.{if_then_else_, at, within, steep, lastSteps, lift, castOf, Raycast, raycastOf};
 ghost use Rattle.rays.specs.declared.RaycastResult.the-variants.{Inside, Neither};
 
+// What `raycast` answers.
 pub enum RaycastResult {
     On,
     Inside,
@@ -99,6 +100,8 @@ fn cast(ax: f64, ay: f64, bx: f64, by: f64, px: f64, py: f64) -> RaycastResult
     crossing(ax, ay, bx, by, px, lifted(ay, by, py))
 }
 
+// What the ray from p to the right says of a segment, by 01's eight steps: p is on the segment, or
+// the ray crosses it (inside), or neither. p is any point, of NaNs and infinities too.
 pub fn raycast(seg: Segment, p: Point) -> RaycastResult
     ensures steps { λ r. ⌜ Raycast seg p r ⌝ }
     ensures computed { λ r. ⌜ r ≡ raycastOf seg p ⌝ }

@@ -1,8 +1,11 @@
 // Replays a fixed list of questions, one a line of standard input, and prints one answer a line, which
 // rt holds against the answers that the Rust gave. docs/REPLAY.md has the line form.
+mod casts;
 mod fields;
+mod grids;
 mod numbers;
 mod print;
+mod signed;
 mod varints;
 
 ghost use mathlib.Core.Path.{_≡_};
@@ -40,6 +43,14 @@ fn answer(line: &[u8]) {
         return;
     }
     if varints::answer(line, word) {
+        print::end_line();
+        return;
+    }
+    if casts::answer(line, word) {
+        print::end_line();
+        return;
+    }
+    if grids::answer(line, word) {
         print::end_line();
         return;
     }

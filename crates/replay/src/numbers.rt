@@ -12,7 +12,7 @@ use whole::floor;
 use whole::round;
 
 // The float of a pattern; every NaN's pattern gives a NaN.
-fn float_of(bits: u64) -> f64 {
+pub fn float_of(bits: u64) -> f64 {
     if 0x7ff0_0000_0000_0000 < bits % 0x8000_0000_0000_0000 {
         return 0.0 / 0.0;
     }

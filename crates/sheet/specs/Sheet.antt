@@ -17,6 +17,7 @@ use Rattle.rays.specs.Raycast.{raycastOf}
 use Rattle.answers.specs.declared.Answer.{Answer}
 use Rattle.answers.specs.declared.Answer.the-variants.{Yes, No}
 use Rattle.grid.specs.Rings.{gridRing}
+use Rattle.stripes_place.specs.Stripe.{stripeOf}
 
 -- "S is the square (0,0) (10,0) (10,10) (0,10) (0,0)"
 abbrev pub S : List ℤ
@@ -51,5 +52,8 @@ pub record SampleSheet : Type 0 where
   -- "300 is AC 02." "80 00 reads 0."
   pub three-hundred : encode 300 ≡ 0xAC ∷ 0x02 ∷ []
   pub eighty-nought : readUvarint 64 (0x80 ∷ 0x00 ∷ []) 0 ≡ Value 0 2
+  -- "Stripe of 5, 10 with least 0, height 10, 32 stripes: 16, 31."
+  pub stripe-of-5 : stripeOf (whole (pos 5)) (whole (pos 0)) (whole (pos 10)) 32 ≡ 16
+  pub stripe-of-10 : stripeOf (whole (pos 10)) (whole (pos 0)) (whole (pos 10)) 32 ≡ 31
   -- "Next up from -1 has bits BFEFFFFFFFFFFFFF."
   pub next-up : toBits binary64 (nextUp (whole (negsuc 0))) ≡ 0xBFEF_FFFF_FFFF_FFFF

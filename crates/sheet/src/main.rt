@@ -1,5 +1,6 @@
 // 01's sample sheet, the cases that are run and not proved: each line is a case and what the library says.
 use libc::STDOUT_FILENO;
+use stripes_build::StripesBuilt;
 use varint::ReadUvarint;
 
 fn text(t: &[u8]) {
@@ -25,7 +26,32 @@ fn nine_and(last: u8) {
     say(varint::read_uvarint(&bytes, 0, 10));
 }
 
+fn number(x: usize) {
+    text(b" ");
+    io::print_decimal(STDOUT_FILENO, x as u64);
+}
+
+// "S, threshold 0, stripes: 4, 32, 66, 3": segments, stripes, entries in all, fullest stripe.
+fn stripes_of_s() {
+    let s = [0i32, 0, 10, 0, 10, 10, 0, 10, 0, 0];
+    let mut stripes = [0u32; 64];
+    let mut list = [0u32; 66];
+    match stripes_build::build_stripes(&s, 5, 0, &mut stripes, &mut list) {
+        StripesBuilt::Striped(_, _, stats) => {
+            number(stats.segments);
+            number(stats.stripes);
+            number(stats.entries);
+            number(stats.fullest);
+        }
+        StripesBuilt::Unstriped => text(b" none"),
+        StripesBuilt::StripesRefused(r) => number(r.place()),
+    }
+    text(b"\n");
+}
+
 fn main() {
+    text(b"S, threshold 0, stripes:");
+    stripes_of_s();
     text(b"nine FF then 7F reads ");
     nine_and(127);
     text(b"nine FF then 01 reads ");

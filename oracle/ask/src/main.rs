@@ -7,6 +7,7 @@
 mod numbers;
 mod rings;
 mod sample;
+mod segments;
 mod words;
 
 use std::io::{self, Read};
@@ -23,7 +24,7 @@ fn main() -> ExitCode {
         ["sample", folder] => write_sample(Path::new(folder)),
         ["sample", "--check", folder] => check_sample(Path::new(folder)),
         ["--help"] => {
-            println!("{USAGE}\nquestions:\n{}\n{}", numbers::HELP, rings::HELP);
+            println!("{USAGE}\nquestions:\n{}\n{}\n{}", numbers::HELP, segments::HELP, rings::HELP);
             Ok(())
         }
         _ => Err(USAGE.into()),
@@ -38,10 +39,13 @@ fn main() -> ExitCode {
 }
 
 fn answer(question: &str) -> Result<String, String> {
-    match numbers::answer(question)? {
-        Some(answer) => Ok(answer),
-        None => rings::answer(question),
+    if let Some(answer) = numbers::answer(question)? {
+        return Ok(answer);
     }
+    if let Some(answer) = segments::answer(question)? {
+        return Ok(answer);
+    }
+    rings::answer(question)
 }
 
 /// The answers to some lines, a line each.
@@ -61,12 +65,15 @@ fn answer_standard_input() -> Result<(), String> {
     Ok(())
 }
 
-/// The names and contents of the sample's files.
+/// The names and contents of the sample's files: what the Rust answers, then what 01 decides against
+/// it, then lines that are no question.
 fn sample_files() -> Result<[(&'static str, String); 2], String> {
-    let lines = |list: Vec<String>| list.iter().map(|q| format!("{q}\n")).collect::<String>();
-    let (questions, others) = (lines(sample::questions()), sample::no_questions());
-    let answers = answers(&questions)? + &"?\n".repeat(others.len());
-    Ok([("stdin", questions + &lines(others)), ("stdout", answers)])
+    let lines = |list: &[String]| list.iter().map(|line| format!("{line}\n")).collect::<String>();
+    let (asked, others) = (lines(&sample::questions()), sample::no_questions());
+    let (decided, decisions): (Vec<String>, Vec<String>) = sample::decided().into_iter().unzip();
+    let questions = [&asked, &lines(&decided), &lines(&others)].map(String::as_str).concat();
+    let answers = answers(&asked)? + &lines(&decisions) + &"?\n".repeat(others.len());
+    Ok([("stdin", questions), ("stdout", answers)])
 }
 
 fn write_sample(folder: &Path) -> Result<(), String> {
@@ -87,4 +94,17 @@ fn check_sample(folder: &Path) -> Result<(), String> {
         }
     }
     Ok(())
+}
+
+#[cfg(test)]
+mod tests {
+    use super::*;
+
+    #[test]
+    fn what_is_decided_is_not_what_the_rust_says() {
+        for (question, decision) in sample::decided() {
+            let said = answer(&question).expect("it is a question");
+            assert_ne!(said, decision, "{question}");
+        }
+    }
 }

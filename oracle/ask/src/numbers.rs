@@ -1,7 +1,7 @@
 //! Questions of docs/REPLAY.md on numbers and varints, answered by the Rust. Where the Rust has no
 //! refusal and no lent room, the answer has those of docs/01-scope.md.
 
-use crate::words::{bytes, float, number, Words, Wrong};
+use crate::words::{bytes, float, number, refused, Words, Wrong};
 use opened::open;
 
 pub const HELP: &str = "\
@@ -29,7 +29,7 @@ pub fn answer(question: &str) -> Result<Option<String>, Wrong> {
 fn read(data: &[u8], at: usize, end: usize) -> String {
     match open::read_uvarint(&data[..end.min(data.len())], at) {
         Some((x, next)) => format!("{} {}", number(x), number(next as u64)),
-        None => refused(9, at),
+        None => refused((9, at as u64)),
     }
 }
 
@@ -38,7 +38,7 @@ fn append(mut room: Vec<u8>, at: usize, x: u64) -> String {
     let written = encoded(x);
     let end = at.checked_add(written.len()).filter(|&end| end <= room.len());
     room[end.map_or(0, |_| at)..].fill(0);
-    let Some(end) = end else { return format!("{} {}", refused(8, 0), bytes(&room)) };
+    let Some(end) = end else { return format!("{} {}", refused((8, 0)), bytes(&room)) };
     room[at..end].copy_from_slice(&written);
     format!("{} {}", number(end as u64), bytes(&room))
 }
@@ -47,10 +47,6 @@ fn encoded(x: u64) -> Vec<u8> {
     let mut out = Vec::new();
     open::append_uvarint(&mut out, x);
     out
-}
-
-fn refused(n: u64, place: usize) -> String {
-    format!("refused {} {}", number(n), number(place as u64))
 }
 
 #[cfg(test)]

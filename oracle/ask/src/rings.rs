@@ -1,19 +1,19 @@
-//! Questions on boxes, segments, rings and outlines, to be asked by hand.
+//! More questions on boxes, rings and outlines, to be asked by hand.
 
 use crate::words::{bytes, float, yes, Words, Wrong};
-use opened::open::{self, Cast, Stripes, Tree};
-use opened::{I32Point, I32Polygon, I32RaycastMode, Point, PolygonBuildOptions, Rect, RingBuildStats, Segment};
+use opened::open::{self, Stripes, Tree};
+use opened::{I32Polygon, I32RaycastMode, Point, PolygonBuildOptions, Rect, RingBuildStats};
 
 pub const HELP: &str = "\
-meet BOX BOX | choose BOX BOX | quad BOX N
-cast X,Y X,Y P                           raycast of a segment
+meet BOX BOX | quad BOX N
 box RING | area RING | grid EDGE X,Y RING
 test INDEX EDGE P RING | list INDEX F RING
 stripes RING | tree RING | size RING     an index's content; the tree's nodes and depth
 stats INDEX N RING                       with threshold N
 inside MODE EDGE F INDEX N P RING / RING ..   with scale F and threshold N
 
-F is a float, by its bits in hexadecimal; P is two of them, BOX two P; N and AT are hexadecimal too.
+F is a float, by its bits in hexadecimal; P is two of them, BOX two P; N and AT are hexadecimal too,
+and so are X, Y, AX .. and COORDINATES, by their two's complement.
 RING is corners X,Y in decimal. INDEX is scan, stripes, tree or both; EDGE is out or in; MODE is float
 or integer.";
 
@@ -21,24 +21,11 @@ pub fn answer(question: &str) -> Result<String, Wrong> {
     let mut words = Words::of(question);
     let answer = match words.word("a question")? {
         "meet" => yes(words.rect()?.intersects_rect(words.rect()?)),
-        "choose" => open::choose_quad(words.rect()?, words.rect()?).map_or("none".into(), |q| q.to_string()),
         "quad" => rect(open::quad_bounds(words.rect()?, words.place("quadrant")?)),
-        "cast" => cast(&mut words)?,
         _ => return about_rings(question),
     };
     words.end()?;
     Ok(answer)
-}
-
-fn cast(words: &mut Words) -> Result<String, Wrong> {
-    let mut end = || words.corner().map(|c: I32Point| Point { x: f64::from(c.x), y: f64::from(c.y) });
-    let segment = Segment { a: end()?, b: end()? };
-    Ok(match open::raycast(&segment, words.point()?) {
-        Cast::Neither => "neither",
-        Cast::Inside => "inside",
-        Cast::On => "on",
-    }
-    .into())
 }
 
 fn about_rings(question: &str) -> Result<String, Wrong> {

@@ -1,8 +1,10 @@
 //! The sample of the oracle's answers that the repository keeps: questions in the line form of
 //! docs/REPLAY.md, the same on every machine.
 
-use crate::words::bytes;
-use cases::{floats, varints, Random, SEED};
+use crate::words::{bytes, coordinates};
+use cases::lent::{self, Lent};
+use cases::segments::Ends;
+use cases::{boxes, floats, points, rings, segments, varints, Random, SEED};
 
 /// The questions: 01's sample sheet, then of each function the edges (all or some), then random and
 /// damaged inputs.
@@ -14,7 +16,19 @@ pub fn questions() -> Vec<String> {
     all.extend(reads());
     all.extend(appends());
     all.extend(varints::values().iter().step_by(9).map(|x| format!("uvarint_len {x:x}")));
+    all.extend(casts());
+    all.extend(choices());
+    all.extend(grid_rings());
     all
+}
+
+/// Questions on which 01 decides against the Rust (docs/DIFFERENCES.md), with the answer that it gives.
+pub fn decided() -> Vec<(String, String)> {
+    let ring = coordinates(&rings::coordinates(&[[0, 0], [0, 1], [0, 0]]));
+    vec![
+        ("next_up fff0000000000000".into(), "ffefffffffffffff".into()),
+        (format!("grid_ring {ring} 3 8000000000000000 0 0"), "no".into()),
+    ]
 }
 
 /// Lines that are no question: an unknown word, a field that is missing, too much or in another form.
@@ -49,6 +63,14 @@ pub fn no_questions() -> Vec<String> {
         "append_uvarint 00 0",
         "append_uvarint 0 0 1",
         "uvarint_len -",
+        "raycast 0 0 0 1 0",
+        "raycast 0 0 0 1 0 0 0",
+        "raycast 0 0 0 80000000 0 0",
+        "raycast 0 ffffffff7fffffff 0 0 0 0",
+        "choose_quad 0 0 0 0 0 0 0",
+        "grid_ring 00000000 1 0 0",
+        "grid_ring 000000 1 0 0 0",
+        "grid_ring 00000000 1 0 0 2",
     ];
     lines.map(String::from).to_vec()
 }
@@ -68,8 +90,7 @@ fn sheet() -> Vec<String> {
     ]
 }
 
-/// The library keeps to the standard where the Rust does not: next up from -infinity. The sample is
-/// the Rust's, so it leaves that out.
+/// The Rust's answer to next up from -infinity is not the standard's: that one is among those decided.
 fn of_floats(name: &str) -> Vec<u64> {
     let mut random = Random::new(SEED, &format!("sample {name}"));
     let mut patterns = floats::landmarks();
@@ -99,4 +120,65 @@ fn appends() -> Vec<String> {
     let mut writes: Vec<_> = edges.into_iter().step_by(61).collect();
     writes.extend((0..60).map(|_| varints::random_write(&mut random)));
     writes.iter().map(|q| format!("append_uvarint {} {:x} {:x}", bytes(&q.room), q.at, q.value)).collect()
+}
+
+/// A whole number by its two's complement.
+fn whole(z: impl Into<i64>) -> String {
+    format!("{:x}", z.into())
+}
+
+fn float(x: f64) -> String {
+    format!("{:x}", x.to_bits())
+}
+
+fn casts() -> Vec<String> {
+    let mut random = Random::new(SEED, "sample raycast");
+    let mut asked: Vec<(Ends, points::Place)> = Vec::new();
+    let places = segments::half_steps(2);
+    for (i, ends) in segments::of_grid(2).enumerate() {
+        asked.extend(places.iter().skip(i % 11).step_by(11).map(|&p| (ends, p)));
+    }
+    for ends in segments::edges().into_iter().step_by(37) {
+        let places = points::of_segment(ends[0], ends[1]);
+        asked.extend((0..6).map(|_| (ends, *random.pick(&places))));
+    }
+    for _ in 0..100 {
+        let ends = segments::random(&mut random);
+        asked.push((ends, points::random(&mut random, &ends)));
+    }
+    let line = |([a, b], p): &(Ends, points::Place)| {
+        let words = [a, b].map(|c| c.map(whole).join(" ")).join(" ");
+        format!("raycast {words} {}", p.map(float).join(" "))
+    };
+    asked.iter().map(line).collect()
+}
+
+fn choices() -> Vec<String> {
+    let mut random = Random::new(SEED, "sample choose_quad");
+    let mut pairs: Vec<_> = boxes::edges().step_by(2873).collect();
+    pairs.extend((0..200).map(|_| boxes::random_pair(&mut random)));
+    pairs.iter().map(|pair| format!("choose_quad {}", pair.map(|b| b.map(float).join(" ")).join(" "))).collect()
+}
+
+/// Rings of up to 31 segments, whose coordinates the program has room for, and places that lie within
+/// Integer mode's range: farther away the Rust's products wrap.
+fn grid_rings() -> Vec<String> {
+    let mut random = Random::new(SEED, "sample grid_ring");
+    let mut asked = Vec::new();
+    let most = i64::from(cases::limits::INTEGER_COORDINATE);
+    for lent in lent::edges().into_iter().filter(|l| l.coords.len() <= 64).step_by(2) {
+        asked.push((lent, [5, 5]));
+    }
+    for _ in 0..200 {
+        let segments = 1 + random.below(31);
+        let ring = rings::in_integer_range(&rings::random_of(&mut random, segments));
+        let p = points::random_whole(&mut random, &ring).map(|c| c.clamp(-most, most));
+        let lent = if random.one_in(8) { lent::damaged(&mut random, &ring) } else { Lent::of(&ring) };
+        asked.push((lent, p));
+    }
+    asked.retain(|(lent, _)| lent.coords.len() <= 64);
+    let line = |(i, (lent, p)): (usize, &(Lent, [i64; 2]))| {
+        format!("grid_ring {} {:x} {} {}", coordinates(&lent.coords), lent.points, p.map(whole).join(" "), i % 2)
+    };
+    asked.iter().enumerate().map(line).collect()
 }

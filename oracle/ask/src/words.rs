@@ -37,6 +37,11 @@ impl<'a> Words<'a> {
         self.number(what).map(|n| n as usize)
     }
 
+    /// A whole number, by its two's complement.
+    pub fn whole(&mut self, what: &str) -> Result<i64, Wrong> {
+        self.number(what).map(|n| n as i64)
+    }
+
     /// A float, by its bits.
     pub fn float(&mut self, what: &str) -> Result<f64, Wrong> {
         self.number(what).map(f64::from_bits)
@@ -53,6 +58,15 @@ impl<'a> Words<'a> {
             return Err(wrong());
         }
         (0..word.len()).step_by(2).map(|i| u8::from_str_radix(&word[i..i + 2], 16).map_err(|_| wrong())).collect()
+    }
+
+    /// Coordinates, eight digits each, by their two's complement; a hyphen for none.
+    pub fn coordinates(&mut self, what: &str) -> Result<Vec<i32>, Wrong> {
+        let bytes = self.bytes(what)?;
+        if bytes.len() % 4 != 0 {
+            return Err(format!("{what}: eight digits a coordinate were expected"));
+        }
+        Ok(bytes.chunks_exact(4).map(|b| i32::from_be_bytes([b[0], b[1], b[2], b[3]])).collect())
     }
 
     pub fn point(&mut self) -> Result<Point, Wrong> {
@@ -119,6 +133,14 @@ pub fn bytes(bytes: &[u8]) -> String {
         return "-".into();
     }
     bytes.iter().map(|b| format!("{b:02x}")).collect()
+}
+
+pub fn coordinates(row: &[i32]) -> String {
+    bytes(&row.iter().flat_map(|z| z.to_be_bytes()).collect::<Vec<u8>>())
+}
+
+pub fn refused((n, place): (u32, u64)) -> String {
+    format!("refused {} {}", number(u64::from(n)), number(place))
 }
 
 pub fn yes(b: bool) -> String {

@@ -1,6 +1,10 @@
--- `rays::cast` meets its contract: each way out rewrites by the tests that led there. Assumes nothing.
+-- `rays::cast` meets its contract: each way out follows from the tests that led there. Assumes nothing.
 use borrow.Author.Needs.{needs}
-use Rattle.rays.specs.Raycast.{firstSteps}
+use mathlib.Core.Path.{_≡_}
+use lib.Ieee.{eq}
+use Rattle.rays.specs.declared.RaycastResult.{RaycastResult}
+use Rattle.rays.specs.declared.RaycastResult.the-variants.{On}
+use Rattle.rays.specs.Raycast.{if_then_else_, at, quotient, firstSteps}
 use Rattle.rays.proofs.cast.Statement.{statement}
 use Rattle.rays.proofs.cast.Tie as tie
 
@@ -35,41 +39,23 @@ returns-5 c =
     let one = two .before in
     simp (one .if1 .left, two .if2 .left, ← (level .before .along .ensures), level .if4 .left, ← (c .before .along2 .ensures), c .if5 .taken)
 
-returns-6 : tie.Need-returns-6
+-- past the first three steps it is for step 4 to say on, or for the later steps to say what they do
+past-three : (c : tie.Else5) (later : RaycastResult) → (
+    let start = c .before .before .before .before .before .before in
+    let v = start .args in
+    firstSteps (at (v .ax) (v .ay)) (at (v .bx) (v .by)) (at (v .px) (v .py)) later
+    ≡ (if eq (quotient (v .px) (v .ax) (v .bx) (v .ax)) (quotient (v .py) (v .ay) (v .by) (v .ay)) then On else later))
 unfolding firstSteps
-returns-6 c =
-    let upright = c .before in
-    let level = upright .before .before in
+past-three c later =
+    let level = c .before .before in
     let two = level .before .before in
-    let one = two .before in
-    simp (
-      one .if1 .left,
-      two .if2 .left,
-      ← (level .before .along .ensures),
-      level .if4 .left,
-      ← (upright .before .along2 .ensures),
-      upright .if5 .left,
-      c .if6 .taken,
-    )
+    simp (two .before .if1 .left, two .if2 .left, ← (level .before .along .ensures), level .if4 .left, ← (c .before .along2 .ensures), c .if5 .left)
+
+returns-6 : tie.Need-returns-6
+returns-6 c = simp (past-three (c .before), c .if6 .taken)
 
 returns-7 : tie.Need-returns-7
-unfolding firstSteps
-returns-7 c =
-    let four = c .before .before in
-    let upright = four .before in
-    let level = upright .before .before in
-    let two = level .before .before in
-    let one = two .before in
-    simp (
-      one .if1 .left,
-      two .if2 .left,
-      ← (level .before .along .ensures),
-      level .if4 .left,
-      ← (upright .before .along2 .ensures),
-      upright .if5 .left,
-      four .if6 .left,
-    )
-    (simp (c .crossing .ensures, c .before .lifted .ensures))
+returns-7 c = let four = c .before .before in simp (past-three (four .before), four .if6 .left, c .crossing .ensures, c .before .lifted .ensures)
 
 pub cast-spec : {M : Type 1} → statement M
 cast-spec =
