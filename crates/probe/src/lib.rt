@@ -6,4 +6,6 @@ mod casts;
 mod grids;
 mod numbers;
 mod rects;
+mod scans;
+mod stripes;
 mod varints;

@@ -129,6 +129,33 @@ pub fn extremes(random: &mut Random, segments: usize) -> Ring {
     closed((0..segments).map(|_| [*random.pick(&ENDS), *random.pick(&ENDS)]).collect())
 }
 
+/// A triangle whose doubled area is -1, 0 or 1, of any size up to i32's, its first corner repeated.
+pub fn thin(random: &mut Random, segments: usize) -> Ring {
+    // two vectors whose cross product stays 1: one is added to the other
+    let (mut u, mut v) = ([1_i64, 0], [0_i64, 1]);
+    for _ in 0..random.below(60) {
+        let sum = [u[0] + v[0], u[1] + v[1]];
+        if sum.iter().any(|&c| c > i64::from(i32::MAX)) {
+            break;
+        }
+        *(if random.one_in(2) { &mut u } else { &mut v }) = sum;
+    }
+    let signs = [random.between(0, 1) * 2 - 1, random.between(0, 1) * 2 - 1];
+    let mut at = |far: i64| random.between(i64::from(i32::MIN), i64::from(i32::MAX) - far);
+    let from = [at(u[0].max(v[0])), at(u[1].max(v[1]))];
+    let corner = |step: [i64; 2]| -> Corner {
+        // mirrored about -1/2, which keeps to i32
+        [0, 1].map(|c| if signs[c] == 1 { (from[c] + step[c]) as i32 } else { (-1 - (from[c] + step[c])) as i32 })
+    };
+    let mut corners = vec![corner([0, 0]); segments.max(3) - 2];
+    corners.extend(match random.below(3) {
+        0 => [corner(u), corner(v)],
+        1 => [corner(v), corner(u)],
+        _ => [corner(u), corner(u)],
+    });
+    closed(corners)
+}
+
 /// 01's S, and the hole of its H.
 pub fn sheet_square() -> Ring {
     square([0, 0], 10, 4)
@@ -285,6 +312,24 @@ mod tests {
             let ring = random(&mut r);
             assert!(accepted(&ring) && accepted(&damaged(&mut r, &ring)));
         }
+    }
+
+    #[test]
+    fn thin_ones_are_thin() {
+        let mut r = Random::new(crate::SEED, "test");
+        let mut seen = [false; 3];
+        for _ in 0..1000 {
+            let ring = thin(&mut r, 5);
+            assert!(accepted(&ring) && ring.len() == 6);
+            let cross = |s: &[Corner]| {
+                let [[ax, ay], [bx, by]] = [s[0], s[1]].map(|c| c.map(i128::from));
+                ax * by - bx * ay
+            };
+            let area: i128 = ring.windows(2).map(cross).sum();
+            assert!(area.abs() <= 1);
+            seen[(area + 1) as usize] = true;
+        }
+        assert_eq!(seen, [true; 3]);
     }
 
     #[test]

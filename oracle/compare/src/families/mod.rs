@@ -2,15 +2,20 @@
 
 mod boxes;
 mod numbers;
+mod rings;
 mod segments;
+mod stripes;
 mod varints;
 
 use crate::report::Plan;
+use cases::rings::Corner;
+use opened::{I32Point, Point};
 
 /// A family's name and what runs it; true where nothing is amiss.
 pub type Run = (&'static str, fn(Plan) -> bool);
 
-pub const ALL: &[&[Run]] = &[numbers::FAMILIES, varints::FAMILIES, boxes::FAMILIES, segments::FAMILIES];
+pub const ALL: &[&[Run]] =
+    &[numbers::FAMILIES, varints::FAMILIES, boxes::FAMILIES, segments::FAMILIES, rings::FAMILIES, stripes::FAMILIES];
 
 /// The bits; no bits for a NaN, which is one value whatever its bits.
 fn bits(x: f64) -> Option<u64> {
@@ -27,4 +32,9 @@ fn shown(x: f64) -> String {
 
 fn all_shown(row: &[f64]) -> String {
     row.iter().map(|&x| shown(x)).collect::<Vec<_>>().join(", ")
+}
+
+/// A ring as the Rust takes it.
+fn rust_ring(ring: &[Corner]) -> Vec<I32Point> {
+    ring.iter().map(|&[x, y]| Point { x, y }).collect()
 }

@@ -1,6 +1,6 @@
 //! Both tests of a segment, and the whole-number test of a ring.
 
-use super::{all_shown, Run};
+use super::{all_shown, rust_ring, Run};
 use crate::ours;
 use crate::report::{Family, Plan};
 use cases::lent::{self, Lent};
@@ -10,7 +10,7 @@ use cases::segments::{self, Ends};
 use cases::Random;
 use model::ring::{self as model_ring, Ray, Segment};
 use opened::open::{self, Cast};
-use opened::{I32Point, Point};
+use opened::Point;
 
 pub const FAMILIES: &[Run] = &[("raycast", raycast), ("grid_test", grid_test), ("grid_ring", grid_ring)];
 
@@ -61,10 +61,6 @@ fn wrapped([[ax, ay], [bx, by]]: Ends, [px, py]: [i64; 2]) -> Ray {
 
 fn segment([a, b]: Ends) -> Segment {
     Segment { a: (a[0], a[1]), b: (b[0], b[1]) }
-}
-
-fn rust_ring(ring: &[Corner]) -> Vec<I32Point> {
-    ring.iter().map(|&[x, y]| Point { x, y }).collect()
 }
 
 /// The Rust tests rings only: two points are a ring of one segment, and both edge rules together tell

@@ -6,12 +6,16 @@
 
 mod boxes;
 mod numbers;
+mod rings;
 mod segments;
+mod stripes;
 mod varints;
 
 pub use boxes::*;
 pub use numbers::*;
+pub use rings::*;
 pub use segments::*;
+pub use stripes::*;
 pub use varints::*;
 
 /// A refusal's number and place.
@@ -24,4 +28,11 @@ fn said<T>(number: u32, place: usize, with: T) -> Result<T, Refusal> {
     } else {
         Err((number, place as u64))
     }
+}
+
+/// A call with a refusal's place and one number more.
+fn told(call: impl FnOnce(&mut usize, &mut u32) -> u32) -> Result<u32, Refusal> {
+    let (mut place, mut with) = (usize::MAX, u32::MAX);
+    let number = call(&mut place, &mut with);
+    said(number, place, with)
 }

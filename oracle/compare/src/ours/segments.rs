@@ -1,4 +1,4 @@
-use super::{said, Refusal};
+use super::{told, Refusal};
 use cases::lent::Lent;
 use cases::segments::Ends;
 use model::ring::Ray;
@@ -38,13 +38,6 @@ fn ray(number: u32) -> Ray {
         2 => Ray::On,
         _ => unreachable!("a test of a segment says 0, 1 or 2"),
     }
-}
-
-/// A call with a refusal's place and one number more.
-fn told(call: impl FnOnce(&mut usize, &mut u32) -> u32) -> Result<u32, Refusal> {
-    let (mut place, mut with) = (usize::MAX, u32::MAX);
-    let number = call(&mut place, &mut with);
-    said(number, place, with)
 }
 
 pub fn raycast([a, b]: Ends, [x, y]: [f64; 2]) -> Ray {
