@@ -15,7 +15,8 @@ numberOf BadHeight = 7
 numberOf NoRoom = 8
 numberOf (Damaged at) = 9
 
--- the table's last column: a ring number, 0, or for 9 the place that the list or the tree gives
+-- The table's last column. What a case carries is a ring's number for 1, 4 and 6, a ring's number or 64 for 2, and for 9 what 01 gives under "Stripes" and
+-- "The packed tree": 0, a position in the list or its length, or a byte.
 abbrev pub placeOf : Refusal → ℕ
 placeOf (TooFew ring) = ring
 placeOf (TooMany ring) = ring

@@ -1,4 +1,5 @@
-// What a call says when it says no: document 01's numbered refusals, each with its place.
+// What a call says when it says no: document 01's numbered refusals, each with its place. Every promise
+// is an equality with a definition of specs/, so that each call has one answer.
 ghost use mathlib.Core.Path.{_≡_};
 ghost use Rattle.answers.specs.Answers.{said};
 ghost use Rattle.answers.specs.Refusals.{numberOf, placeOf};
@@ -34,7 +35,8 @@ impl Refusal {
         }
     }
 
-    // The ring or byte that the refusal names, 0 where the table says 0.
+    // 01's place of the refusal: a ring's number for 1, 4 and 6, a ring's number or 64 for 2, for 9 a
+    // byte of a tree or a position in a list of stripes, its length or 0, and 0 for the others.
     pub fn place(self) -> usize
         ensures { λ r. ⌜ r ≡ placeOf self ⌝ }
     {
@@ -60,6 +62,7 @@ pub enum Answer {
 }
 
 impl Answer {
+    // The answer to a question that is not refused.
     pub fn of(yes: bool) -> Answer
         ensures { λ r. ⌜ r ≡ said yes ⌝ }
     {

@@ -78,7 +78,16 @@ pub extern "C" fn probe_build_stripes(
     ensures { λ r. ⌜ builtAll (stripesBuilt (now (coords .entry)) points threshold (now (room .entry)) (now (list .entry))) ≡ ((r, now (place .exit), now (least .exit), now (height .exit), now (segments .exit), now (stripes .exit), now (entries .exit), now (fullest .exit)), now (room .exit), now (list .exit)) ⌝ }
 {
     let answer = build_stripes(coords, points, threshold, room, list);
-    put_built(answer, place, least, height, segments, stripes, entries, fullest)
+    put_built(
+        answer,
+        place,
+        least,
+        height,
+        segments,
+        stripes,
+        entries,
+        fullest,
+    )
 }
 
 fn put_listed(answer: StripesListed, place: &mut usize, count: &mut usize) -> u32
@@ -134,5 +143,9 @@ pub extern "C" fn probe_test_stripes(
     ensures { λ r. ⌜ answerNumbers (stripesTested (now (coords .entry)) points least height (now (stripes .entry)) (now (list .entry)) (point x y) edge) ≡ (r, now (place .exit), now (said .exit)) ⌝ }
 {
     let p = Point { x, y };
-    put_answer(stripes_test(coords, points, least, height, stripes, list, p, edge), place, said)
+    put_answer(
+        stripes_test(coords, points, least, height, stripes, list, p, edge),
+        place,
+        said,
+    )
 }

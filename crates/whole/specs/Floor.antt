@@ -1,4 +1,7 @@
--- The floor: the greatest whole number not above x (IEEE 754-2019, 5.9, roundToIntegralTowardNegative), held to two ends.
+-- The floor: the greatest whole number not above x, held to two ends. IEEE 754-2019 has it as roundToIntegralTowardNegative (5.9) and, into an integer
+-- format, as convertToIntegerTowardNegative (5.8). What has no place in the format is an invalid operation there; that it is held to the ends, and that
+-- a NaN gives 0, is Rust's `as`.
+-- Each relation leaves room for one answer only: `floorTo-only` of proofs/Floors.antt and `within-only` of proofs/Within.antt.
 use Prim.Native.Nat.{ℕ, _/_}
 use lib.IntN.{ℤ, pos, negsuc, natAbs, _*ℤ_}
 use lib.Signed.{_≤ℤ_}

@@ -1,4 +1,7 @@
--- The nearest whole number, halves away from zero (IEEE 754-2019, 5.9, roundToIntegralTiesToAway), held to two ends.
+-- The nearest whole number, halves away from zero, held to two ends. IEEE 754-2019 has it as roundToIntegralTiesToAway (5.9) and, into an integer format,
+-- as convertToIntegerTiesToAway (5.8). What has no place in the format is an invalid operation there; that it is held to the ends, and that a NaN gives 0,
+-- is Rust's `as`.
+-- The relation leaves room for one answer only: `roundTo-only` of proofs/Rounds.antt.
 use mathlib.Core.Path.{_≡_}
 use Prim.Native.Nat.{ℕ, suc, _+_, _*_, _/_, _≤_}
 use lib.IntN.{ℤ, pos, negsuc, negℤ, natAbs, _-ℤ_, _*ℤ_}

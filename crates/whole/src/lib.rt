@@ -55,8 +55,8 @@ fn ceiling(x: f64) -> u64
     k
 }
 
-// x to the nearest whole number, a half up, for an x above 0: at most 2^63. The sum is exact unless
-// it is past the ends.
+// x to the nearest whole number, a half up, for an x above 0: at most 2^63. x + x is exact, or an
+// infinity.
 fn near(x: f64) -> u64
     ensures { λ r. ⌜ r ≡ nearSize x ⌝ }
 {

@@ -9,7 +9,7 @@ returns : tie.Need-returns
 returns c = ap listNumbers (told (c .before .before .before .before .before .scan .ensures) (c .before .n .given .1))
 
 returns-2 : tie.Need-returns-2
-returns-2 c = 
+returns-2 c =
     let m = c .before .before .before in
     told-refusal
     (ap listNumbers (told (m .before .before .before .before .scan .ensures) (m .refusal .given .1)))

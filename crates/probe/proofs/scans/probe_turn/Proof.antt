@@ -12,7 +12,7 @@ returns-2 : tie.Need-returns-2
 returns-2 c = ap turnNumbers (sym (c .before .before .turn .ensures) ∙ c .enum-told2 .given .1)
 
 returns-3 : tie.Need-returns-3
-returns-3 c = 
+returns-3 c =
     let m = c .before .before .before in
     told-refusal
     (ap turnNumbers (sym (m .before .before .turn .ensures) ∙ m .refusal .given .1))
