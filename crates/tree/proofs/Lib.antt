@@ -1,0 +1,9 @@
+pub mod AnyOrder
+pub mod Extremes
+pub mod Lists
+pub mod Share
+pub mod Size
+pub mod Order
+pub mod Back
+pub mod Demand
+pub mod Samples

@@ -1,0 +1,38 @@
+-- 01's sample sheet, of the tree. S is the square (0,0) (10,0) (10,10) (0,10) (0,0).
+use Prim.Native.Nat.{ℕ}
+use mathlib.Core.Path.{_≡_, refl}
+use mathlib.Core.List.{List, [], _∷_}
+use lib.IntN.{ℤ, pos, negsuc}
+use lib.Ieee.{binary64, ofInt, round, odd, units, size, span, climb, lt, le, add, div, ofBits, ofFields}
+use Rattle.room.specs.Numbers.{keep, upTo}
+use Rattle.varint.specs.Leb128.{encode, encodeIn, decode, size as bytesOf}
+use Rattle.varint.specs.Uvarint.{readUvarint}
+use Rattle.tree.specs.Tree.{those, grown, least, greatest, ringBox, treeOf, differences, ownBytes, packed}
+use Rattle.tree.specs.Search.{Found, ends, after, ownFrom, own, child, children, afterOwn, nodeWith, node, searched}
+
+abbrev pub square : List ℤ
+square = pos 0 ∷ pos 0 ∷ pos 10 ∷ pos 0 ∷ pos 10 ∷ pos 10 ∷ pos 0 ∷ pos 10 ∷ pos 0 ∷ pos 0 ∷ []
+
+abbrev pub squareBytes : List ℕ
+squareBytes = 0x04 ∷ 0x00 ∷ 0x01 ∷ 0x01 ∷ 0x01 ∷ 0x00 ∷ []
+
+-- S packs to 04 00 01 01 01 00
+pub square-packs : packed (treeOf square 5) ≡ squareBytes
+unfolding packed ownBytes treeOf grown upTo keep differences encode encodeIn
+square-packs = refl
+
+abbrev at : ℤ → Found
+at y = searched squareBytes square 4 (ofInt binary64 y) (ringBox square 5)
+
+-- lists in S: y 0 gives 0, 1, 3; y 10 gives 1, 2, 3; y -1 none
+pub square-0 : at (pos 0) ≡ (0 ∷ 1 ∷ 3 ∷ [], ends 6)
+unfolding searched node nodeWith own ownFrom afterOwn after ringBox least greatest readUvarint decode bytesOf ofInt round odd units size span climb lt le
+square-0 = refl
+
+pub square-10 : at (pos 10) ≡ (1 ∷ 2 ∷ 3 ∷ [], ends 6)
+unfolding searched node nodeWith own ownFrom afterOwn after ringBox least greatest readUvarint decode bytesOf ofInt round odd units size span climb lt le
+square-10 = refl
+
+pub square-above : at (negsuc 0) ≡ ([], ends 0)
+unfolding searched ringBox least greatest ofInt round odd units size span climb lt le
+square-above = refl

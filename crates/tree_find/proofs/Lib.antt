@@ -1,0 +1,4 @@
+pub mod Pour
+pub mod Ways
+pub mod Answers
+pub mod Demand

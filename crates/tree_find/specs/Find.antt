@@ -1,0 +1,87 @@
+-- What the calls on a tree answer, and what they leave in the lent room.
+use Prim.Native.Nat.{ℕ}
+use mathlib.Core.List.{List}
+use mathlib.Core.Bool.{Bool, true, false, cond, _&&_}
+use lib.Dec.{leb}
+use lib.ListN.{length, replicate}
+use lib.IntN.{ℤ}
+use lib.Ieee.{Float}
+use lib.Ieee.Scale.{finite}
+use Rattle.answers.specs.declared.Refusal.{Refusal}
+use Rattle.answers.specs.declared.Refusal.the-variants.{NoRoom, BadHeight}
+use Rattle.answers.specs.declared.Answer.{Answer}
+use Rattle.answers.specs.declared.Answer.the-variants.{No, Refused}
+use Rattle.answers.specs.Answers.{said}
+use Rattle.boxes.specs.declared.Point.{Point}
+use Rattle.rays.specs.declared.RaycastResult.{RaycastResult}
+use Rattle.rays.specs.declared.RaycastResult.the-variants.{On, Inside, Neither}
+use Rattle.rays.specs.Raycast.{raycastOf}
+use Rattle.rings.specs.declared.Checked.{Checked}
+use Rattle.rings.specs.declared.Checked.the-variants.{Sound, Faulty}
+use Rattle.rings.specs.Ring.{segmentAt, segments}
+use Rattle.rings.specs.Checks.{ringChecked}
+use Rattle.rings.specs.RingTest.{ringTest}
+use Rattle.room.specs.Room.{pad}
+use Rattle.tree.specs.Tree.{ringBox}
+use Rattle.tree.specs.Search.{Found, End, ends, fails, searched}
+use Rattle.tree_find.specs.declared.TreeListed.{TreeListed}
+use Rattle.tree_find.specs.declared.TreeListed.the-variants.{TreeFound, TreeUnlisted}
+
+-- ---- a list in lent room
+
+-- the answer and the room
+abbrev pub Outcome : Type 0
+Outcome = TreeListed × List ℕ
+
+-- 8 and 9 "fill all output .. with zeros"; the room is for n numbers
+abbrev pub refused : Refusal → ℕ → Outcome
+refused why n = (TreeUnlisted why, replicate n 0)
+
+-- "After success, output past the used part is zero"
+abbrev pub ended : List ℕ → End → ℕ → Outcome
+ended found (ends p) n = (TreeFound (length found), pad n found)
+ended found (fails why) n = refused why n
+
+-- "8 and 9 are met in working order, whichever comes first": the numbers found stand before the damage
+unfoldable pub answered : ℕ → Found → Outcome
+answered n found = cond (leb (length (found .0)) n) (ended (found .0) (found .1) n) (refused NoRoom n)
+
+-- 1 to 4, then 7, touch no room
+abbrev pub listWhenSound : Checked → List ℕ → Outcome → Outcome
+listWhenSound Sound room later = later
+listWhenSound (Faulty why) room later = (TreeUnlisted why, room)
+
+unfoldable pub treeListed : List ℤ → ℕ → List ℕ → Float → List ℕ → Outcome
+treeListed ring points bytes y room =
+    listWhenSound (ringChecked ring points) room
+    (cond (finite y) (answered (length room) (searched bytes ring (segments points) y (ringBox ring points))) (TreeUnlisted BadHeight, room))
+
+-- ---- the ring test
+abbrev pub isOn : RaycastResult → Bool
+isOn On = true
+isOn Inside = false
+isOn Neither = false
+
+abbrev pub isInside : RaycastResult → Bool
+isInside On = false
+isInside Inside = true
+isInside Neither = false
+
+-- the ring test of listed segments
+abbrev pub testOf : List ℤ → Point → Bool → List ℕ → Bool
+testOf ring p edge listed = ringTest (λ i. isOn (raycastOf (segmentAt ring i) p)) (λ i. isInside (raycastOf (segmentAt ring i) p)) edge listed
+
+-- "It answers as if the list were complete before the first segment is tested, so damage met anywhere in listing refuses"
+unfoldable pub verdict : List ℤ → Point → Bool → Found → Answer
+verdict ring p edge (xs, ends q) = said (testOf ring p edge xs)
+verdict ring p edge (xs, fails why) = Refused why
+
+abbrev pub testWhenSound : Checked → Answer → Answer
+testWhenSound Sound later = later
+testWhenSound (Faulty why) later = Refused why
+
+-- "a query that is NaN or infinite .. is outside"
+unfoldable pub treeTested : List ℤ → ℕ → List ℕ → Point → Bool → Answer
+treeTested ring points bytes p edge =
+    testWhenSound (ringChecked ring points)
+    (cond (finite (p .x) && finite (p .y)) (verdict ring p edge (searched bytes ring (segments points) (p .y) (ringBox ring points))) No)
