@@ -15,7 +15,7 @@ use Rattle.rings.specs.Ring.{meeting}
 use Rattle.stripes_build.specs.declared.StripesStats.{StripesStats}
 use Rattle.stripes_build.specs.declared.StripesBuilt.the-variants.{Striped}
 use Rattle.stripes_build.specs.Build.{stripesBuilt}
-use Rattle.stripes_test.specs.Test.{testOf, verdict, stripesTested}
+use Rattle.stripes_test.specs.Test.{testOf, verdict, stripesTested, scanTest}
 use Rattle.stripes_test.proofs.Verdict.{tested-unfit, tested-sound}
 use Rattle.stripes_agree.proofs.Ends.{I32s}
 use Rattle.stripes_agree.proofs.Demand.{built-sound, finds-meeting}
@@ -24,7 +24,7 @@ module _ (ring : List ℤ) (points threshold : ℕ) (nums : I32s ring) (stripes 
     (built : stripesBuilt ring points threshold stripes list ≡ (Striped least height stats, s, l)) where
   pub tests-as-scan : (p : Point) (edge : Bool)
       → stripesTested ring points least height (take (stats .stripes * 2) s) (take (stats .entries) l) p edge
-      ≡ cond (finite (p .x) && finite (p .y)) (said (testOf ring p edge (meeting ring points (p .y)))) No
+      ≡ scanTest ring points p edge
   tests-as-scan p edge = go (finite (p .x) && finite (p .y)) refl
     where
       go : (b : Bool) → (finite (p .x) && finite (p .y)) ≡ b

@@ -166,7 +166,9 @@ fn build_sound(
 }
 
 // Builds the index of one ring in lent room, two numbers a stripe and one for each entry. A ring of
-// fewer segments than the threshold gets none, and its room is zero.
+// fewer segments than the threshold gets none, and its room is zero. A search is lent the used part of
+// the room for the stripes, two numbers for each of the stripes told: zeros behind it would count as
+// stripes.
 pub fn build_stripes(
     coords: &[i32],
     points: usize,

@@ -133,7 +133,8 @@ fn list_sound(
 }
 
 // Lists by rising place in its stripe the segments of one ring whose closed height range holds y, as
-// the index lent has them.
+// the index lent has them. Two numbers make a stripe, so the room that an index was built in is lent
+// without the zeros behind its stripes.
 pub fn stripes_list(
     coords: &[i32],
     points: usize,

@@ -15,7 +15,7 @@ use Rattle.rays.specs.declared.RaycastResult.the-variants.{On, Inside, Neither}
 use Rattle.rays.specs.Raycast.{raycastOf}
 use Rattle.rings.specs.declared.Checked.{Checked}
 use Rattle.rings.specs.declared.Checked.the-variants.{Sound, Faulty}
-use Rattle.rings.specs.Ring.{segmentAt, segments}
+use Rattle.rings.specs.Ring.{segmentAt, segments, meeting}
 use Rattle.rings.specs.Checks.{ringChecked}
 use Rattle.rings.specs.RingTest.{ringTest}
 use Rattle.stripes_find.specs.Search.{Reading, Ending, complete, damagedAt, searched}
@@ -51,3 +51,7 @@ unfoldable pub stripesTested : List ℤ → ℕ → Float → Float → List ℕ
 stripesTested ring points least height stripes list p edge =
     whenSound (ringChecked ring points)
     (cond (finite (p .x) && finite (p .y)) (verdict ring p edge (searched ring (segments points) least height stripes list (p .y))) No)
+
+-- "A ring without an index is scanned": the ring test by scan, of a ring that passed its checks
+abbrev pub scanTest : List ℤ → ℕ → Point → Bool → Answer
+scanTest ring points p edge = cond (finite (p .x) && finite (p .y)) (said (testOf ring p edge (meeting ring points (p .y)))) No
