@@ -75,8 +75,9 @@ fn crossing(ax: f64, ay: f64, bx: f64, by: f64, px: f64, py: f64) -> RaycastResu
     eighth(bx, by, ax, ay, px, py)
 }
 
-// The eight steps.
-fn cast(ax: f64, ay: f64, bx: f64, by: f64, px: f64, py: f64) -> RaycastResult
+// The eight steps on floats. For the ring tests, which read a segment's ends number by number: handed
+// over in registers, they cost half of what they do as a struct.
+pub fn cast(ax: f64, ay: f64, bx: f64, by: f64, px: f64, py: f64) -> RaycastResult
     ensures { λ r. ⌜ r ≡ castOf (at ax ay) (at bx by) (at px py) ⌝ }
 {
     if (ay != by) & (((py < ay) & (py < by)) | ((ay < py) & (by < py))) {

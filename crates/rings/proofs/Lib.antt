@@ -3,3 +3,4 @@ pub mod Checks
 pub mod Sizes
 pub mod RingTest
 pub mod Listing
+pub mod Ends

@@ -1,4 +1,5 @@
 pub mod Ring
+pub mod I32s
 pub mod RingTest
 pub mod Checks
 pub mod Listing

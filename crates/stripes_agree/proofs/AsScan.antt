@@ -12,12 +12,13 @@ use Rattle.answers.specs.declared.Answer.the-variants.{No}
 use Rattle.answers.specs.Answers.{said}
 use Rattle.boxes.specs.declared.Point.{Point}
 use Rattle.rings.specs.Ring.{meeting}
+use Rattle.rings.specs.I32s.{I32s}
 use Rattle.stripes_build.specs.declared.StripesStats.{StripesStats}
 use Rattle.stripes_build.specs.declared.StripesBuilt.the-variants.{Striped}
 use Rattle.stripes_build.specs.Build.{stripesBuilt}
-use Rattle.stripes_test.specs.Test.{testOf, verdict, stripesTested, scanTest}
+use Rattle.cast_test.specs.Test.{testOf, scanTest}
+use Rattle.stripes_test.specs.Test.{verdict, stripesTested}
 use Rattle.stripes_test.proofs.Verdict.{tested-unfit, tested-sound}
-use Rattle.stripes_agree.proofs.Ends.{I32s}
 use Rattle.stripes_agree.proofs.Demand.{built-sound, finds-meeting}
 
 module _ (ring : List ℤ) (points threshold : ℕ) (nums : I32s ring) (stripes list : List ℕ) (least height : Float) (stats : StripesStats) (s l : List ℕ)

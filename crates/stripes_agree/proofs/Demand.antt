@@ -15,6 +15,7 @@ use Rattle.room.specs.Numbers.{consIf, keep, upTo}
 use Rattle.room.specs.Room.{pad}
 use Rattle.room.proofs.UpTo.{upTo-ext, upTo-none}
 use Rattle.rings.specs.Ring.{segmentAt, segments, holdsHeight, meeting}
+use Rattle.rings.specs.I32s.{I32s}
 use Rattle.rings.specs.Checks.{ringChecked}
 use Rattle.rings.specs.declared.Checked.the-variants.{Sound}
 use Rattle.rings.proofs.Checks.{sound-ring}
@@ -32,7 +33,7 @@ use Rattle.stripes_build.proofs.Building.{Indexed, built-is}
 use Rattle.stripes_find.specs.Search.{Reading, complete, outside, searched}
 use Rattle.stripes_find.specs.Listing.{poured, stripesListed}
 use Rattle.stripes_find.proofs.Pouring.{searched-outside, searched-within, listed-sound}
-use Rattle.stripes_agree.proofs.Ends.{I32s, holds-between, least-finite, height-tall, holds-inside}
+use Rattle.stripes_agree.proofs.Ends.{holds-between, least-finite, height-tall, holds-inside}
 use Rattle.stripes_agree.proofs.Found.{built-reads}
 
 meeting-is : (ring : List ℤ) (points : ℕ) (y : Float) → meeting ring points y ≡ upTo (λ i. holdsHeight (segmentAt ring i) y) (segments points) 0
@@ -58,7 +59,8 @@ module _ (ring : List ℤ) (n m : ℕ) (long : n * 2 + 2 ≤ length ring) (nums 
       (stripe-mono (lowEnd ring i) y (leastY ring n) (heightY ring n) m (least-finite ring n long nums) (height-tall ring n long nums) some (omega arith) (r .0))
       (stripe-mono y (highEnd ring i) (leastY ring n) (heightY ring n) m (least-finite ring n long nums) (height-tall ring n long nums) some (omega arith) (r .1))
 
-  found-all : searched ring n (leastY ring n) (heightY ring n) (tableOf (crosses ring (leastY ring n) (heightY ring n) m) n m) (listOf (crosses ring (leastY ring n) (heightY ring n) m) n m ++ rest) y
+  -- the search of them finds the segments whose own range holds y
+  pub found-all : searched ring n (leastY ring n) (heightY ring n) (tableOf (crosses ring (leastY ring n) (heightY ring n) m) n m) (listOf (crosses ring (leastY ring n) (heightY ring n) m) n m ++ rest) y
       ≡ record { found = upTo (λ i. holdsHeight (segmentAt ring i) y) n 0; ending = complete }
   found-all = go (outside y (leastY ring n) (heightY ring n)) refl
     where

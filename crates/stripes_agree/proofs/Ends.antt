@@ -7,7 +7,7 @@ use native.Mathlib.Omega.{arith}
 use mathlib.Core.Bool.{Bool, true, false, not, _&&_, _||_, cond}
 use lib.ListN.{length, getD}
 use lib.IntN.{ℤ, pos, natAbs}
-use lib.Signed.{leZ, mag, natAbs-le}
+use lib.Signed.{leZ, natAbs-le}
 use lib.Dec.{T, eqb}
 use borrow.Author.Tests.{eqb-true, eqb-false}
 use lib.Ieee.{Float, fin, binary64, isNan, lt, le, eq, ne, add, sub, ofInt, ofBits, level}
@@ -24,14 +24,11 @@ use Rattle.floats.proofs.Order.{le-trans, le-refl, le-antisym, lt-not-le}
 use Rattle.floats.proofs.Values.{lesser-le, le-greater}
 use Rattle.floats.proofs.Ints.{value-eq, ofInt-le, ofInt-number, ofInt-finite}
 use Rattle.rings.specs.Ring.{segmentAt, holdsHeight}
+use Rattle.rings.specs.I32s.{I32s}
 use Rattle.stripes_place.proofs.Mono.{Tall}
 use Rattle.stripes_index.specs.Index.{lowEnd, highEnd, leastY, greatestY, heightY}
 use Rattle.stripes_find.specs.Search.{outside}
 use Rattle.stripes_agree.proofs.Span.{Spanned, spanned}
-
--- a ring lent as i32 numbers
-abbrev pub I32s : List ℤ → Type 0
-I32s ring = (i : ℕ) → i < length ring → mag (getD ring i (pos 0)) < 2 ^ 31
 
 -- a float that is an i32
 abbrev Whole : Float → Type 0

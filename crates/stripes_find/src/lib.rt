@@ -1,14 +1,13 @@
 // Searches a lent stripe index, whoever wrote it.
 use answers::Refusal;
 use rings::Checked;
+use rings::holds_height;
 use room::zero_fill_u32;
-use stripes_place::coordinate;
 use stripes_place::stripe_of;
 use stripes_place::wide;
 ghost use mathlib.Core.Path.{_≡_};
 ghost use Prim.Native.Nat.{_+_, _*_, _/_, _<_, _≤_};
 ghost use lib.ListN.{length, replicate};
-ghost use Rattle.rings.specs.Ring.{segmentAt, holdsHeight};
 ghost use Rattle.stripes_place.specs.Stripe.{stripeOf};
 ghost use Rattle.stripes_find.specs.Search.{outside, searched};
 ghost use Rattle.stripes_find.specs.Listing.{poured, stripesListed};
@@ -24,16 +23,6 @@ pub enum StripesListed {
 pub enum Part {
     Run(usize, usize),
     Broken(usize),
-}
-
-// Whether the closed height range of segment i holds y. For callers that have checked the ring.
-pub fn holds_height(ring: &[i32], i: usize, y: f64) -> bool
-    requires { ⌜ i * 2 + 3 < length (now ring) ⌝ }
-    ensures { λ r. ⌜ r ≡ holdsHeight (segmentAt (now (ring .entry)) i) y ⌝ }
-{
-    let a = coordinate(ring, i * 2 + 1);
-    let b = coordinate(ring, i * 2 + 3);
-    ((a <= y) & (y <= b)) | ((b <= y) & (y <= a))
 }
 
 // Whether y is outside least to least+height.

@@ -1,104 +1,47 @@
--- The ring test in one pass: what is seen so far and the numbers to come make the answer. Assumes nothing.
-use mathlib.Core.Path.{_≡_, refl, sym, ap, ap₂, _∙_}
-use mathlib.Core.Bool.{Bool, true, false, not, cond}
-use mathlib.Core.List.{List, [], _∷_}
+-- The ring test of the numbers of a stripe, in one pass. Assumes nothing.
+use mathlib.Core.Path.{_≡_, refl, sym, ap, _∙_}
+use mathlib.Core.Bool.{Bool, false, cond}
+use mathlib.Core.List.{List, []}
 use Prim.Native.Nat.{ℕ, _+_, _≤_, _<_}
 use lib.ListN.{length, getD}
 use lib.Seq.{slice}
 use lib.IntN.{ℤ}
 use Rattle.room.specs.Numbers.{consIf}
 use Rattle.boxes.specs.declared.Point.{Point}
-use Rattle.boxes.specs.declared.Segment.{Segment}
-use Rattle.rays.specs.declared.RaycastResult.{RaycastResult}
-use Rattle.rays.specs.declared.RaycastResult.the-variants.{On, Inside, Neither}
-use Rattle.rays.specs.Raycast.{raycastOf}
 use Rattle.rings.specs.Ring.{segmentAt, holdsHeight}
-use Rattle.rings.specs.RingTest.{testFrom}
+use Rattle.cast_test.specs.declared.Seen.{Seen}
+use Rattle.cast_test.specs.Test.{testOf}
+use Rattle.cast_test.specs.Inner.Steps.{stepOf}
+use Rattle.cast_test.proofs.Steps.{settled, settled-step, settled-done, settled-none}
 use Rattle.stripes_find.specs.Search.{Ending, complete, damagedAt, foundIn, endIn}
 use Rattle.stripes_find.proofs.Reading.{found-done, end-done, found-more, end-more, end-broken}
-use Rattle.stripes_test.specs.declared.Seen.{Seen}
-use Rattle.stripes_test.specs.Test.{isOn, isInside, testOf}
-use Rattle.stripes_test.specs.Inner.Steps.{seenNext, stepOf}
 
-module _ (ring : List ℤ) (p : Point) (edge : Bool) where
-  -- the answer, from what is seen so far, and the numbers found to come
-  unfoldable pub settled : Seen → List ℕ → Bool
-  settled s xs = cond (s .on) edge (testFrom (λ i. isOn (raycastOf (segmentAt ring i) p)) (λ i. isInside (raycastOf (segmentAt ring i) p)) edge (s .inside) xs)
+module _ (ring : List ℤ) (p : Point) (edge : Bool) (n : ℕ) (list : List ℕ) (start past : ℕ) where
+  pub record Testing (s : Seen) (at : ℕ) : Type 0 where
+    pub same : settled ring p edge s (foundIn n (λ i. holdsHeight (segmentAt ring i) (p .y)) (slice at past list))
+        ≡ testOf ring p edge (foundIn n (λ i. holdsHeight (segmentAt ring i) (p .y)) (slice start past list))
+    pub ends : endIn n at (slice at past list) ≡ endIn n start (slice start past list)
 
-  by-cast : (r : RaycastResult) (b : Bool) (xs : List ℕ)
-      → cond (isOn r) edge (testFrom (λ i. isOn (raycastOf (segmentAt ring i) p)) (λ i. isInside (raycastOf (segmentAt ring i) p)) edge (cond (isInside r) (not b) b) xs)
-      ≡ settled (seenNext r (record { on = false; inside = b })) xs
-  unfolding settled
-  by-cast On b xs = refl
-  by-cast Inside b xs = refl
-  by-cast Neither b xs = refl
+  pub testing-start : Testing (record { on = false; inside = false }) start
+  testing-start = record { same = settled-none ring p edge _; ends = refl }
 
-  pub settled-step : (s : Seen) (i : ℕ) (xs : List ℕ) → settled s (consIf (holdsHeight (segmentAt ring i) (p .y)) i xs) ≡ settled (stepOf ring i p s) xs
-  unfolding settled stepOf testFrom
-  settled-step s i xs = go (s .on) (s .inside) (holdsHeight (segmentAt ring i) (p .y))
-    where
-      go : (o b h : Bool) → settled (record { on = o; inside = b }) (consIf h i xs)
-          ≡ settled (cond o (record { on = o; inside = b }) (cond h (seenNext (raycastOf (segmentAt ring i) p) (record { on = o; inside = b })) (record { on = o; inside = b }))) xs
-      go true b h = refl
-      go false b false = refl
-      go false b true = by-cast (raycastOf (segmentAt ring i) p) b xs
-
-  pub settled-done : (s : Seen) → settled s [] ≡ cond (s .on) edge (s .inside)
-  unfolding settled testFrom
-  settled-done s = refl
-
-  -- at the start nothing is seen
-  pub settled-none : (xs : List ℕ) → settled (record { on = false; inside = false }) xs ≡ testOf ring p edge xs
-  unfolding settled
-  settled-none xs = refl
-
-  module _ (n : ℕ) (list : List ℕ) (start past : ℕ) where
-    pub record Testing (s : Seen) (at : ℕ) : Type 0 where
-      pub same : settled s (foundIn n (λ i. holdsHeight (segmentAt ring i) (p .y)) (slice at past list))
-          ≡ testOf ring p edge (foundIn n (λ i. holdsHeight (segmentAt ring i) (p .y)) (slice start past list))
-      pub ends : endIn n at (slice at past list) ≡ endIn n start (slice start past list)
-
-    pub testing-start : Testing (record { on = false; inside = false }) start
-    testing-start = record { same = settled-none _; ends = refl }
-
-    module _ (s : Seen) (at x : ℕ) (l : Testing s at) (h : at < past) (b : past ≤ length list) (is : x ≡ getD list at 0) where
-      pub testing-more : x < n → Testing (stepOf ring x p s) (at + 1)
-      testing-more k =
-          let t : ℕ → Bool = λ i. holdsHeight (segmentAt ring i) (p .y) in
-          let e : foundIn n t (slice at past list) ≡ consIf (t x) x (foundIn n t (slice (at + 1) past list)) = rw is (found-more n t list past at h b (rw (← is) k)) in
-          record {
-            same = sym (settled-step s x (foundIn n t (slice (at + 1) past list))) ∙ sym (ap (settled s) e) ∙ l .same;
-            ends = sym (end-more n t list past at h b (rw (← is) k)) ∙ l .ends;
-          }
-
-      pub testing-broken : n ≤ x → endIn n start (slice start past list) ≡ damagedAt at
-      testing-broken k = sym (l .ends) ∙ end-broken n (λ i. holdsHeight (segmentAt ring i) (p .y)) list past at h b (rw (← is) k)
-
-    pub testing-done : (s : Seen) (at : ℕ) → Testing s at → at ≡ past
-        → (cond (s .on) edge (s .inside) ≡ testOf ring p edge (foundIn n (λ i. holdsHeight (segmentAt ring i) (p .y)) (slice start past list)))
-        × (endIn n start (slice start past list) ≡ complete)
-    testing-done s at l e =
+  module _ (s : Seen) (at x : ℕ) (l : Testing s at) (h : at < past) (b : past ≤ length list) (is : x ≡ getD list at 0) where
+    pub testing-more : x < n → Testing (stepOf ring x p s) (at + 1)
+    testing-more k =
         let t : ℕ → Bool = λ i. holdsHeight (segmentAt ring i) (p .y) in
-        let f : foundIn n t (slice at past list) ≡ [] = rw e (found-done n t list past) in
-        (sym (settled-done s) ∙ sym (ap (settled s) f) ∙ l .same, sym (l .ends) ∙ rw e (end-done n t list past))
+        let e : foundIn n t (slice at past list) ≡ consIf (t x) x (foundIn n t (slice (at + 1) past list)) = rw is (found-more n t list past at h b (rw (← is) k)) in
+        record {
+          same = sym (settled-step ring p edge s x (foundIn n t (slice (at + 1) past list))) ∙ sym (ap (settled ring p edge s) e) ∙ l .same;
+          ends = sym (end-more n t list past at h b (rw (← is) k)) ∙ l .ends;
+        }
 
--- ---- the ways through one step
-module _ (ring : List ℤ) (i : ℕ) (p : Point) (s : Seen) where
-  pub step-on : s .on ≡ true → s ≡ stepOf ring i p s
-  unfolding stepOf
-  step-on e = rw e
+    pub testing-broken : n ≤ x → endIn n start (slice start past list) ≡ damagedAt at
+    testing-broken k = sym (l .ends) ∙ end-broken n (λ i. holdsHeight (segmentAt ring i) (p .y)) list past at h b (rw (← is) k)
 
-  pub step-passed : s .on ≡ false → holdsHeight (segmentAt ring i) (p .y) ≡ false → s ≡ stepOf ring i p s
-  unfolding stepOf
-  step-passed e h = rw (e, h)
-
-  pub step-cast : (seg : Segment) (r : RaycastResult) (t : Seen) → s .on ≡ false → holdsHeight (segmentAt ring i) (p .y) ≡ true
-      → seg ≡ segmentAt ring i → r ≡ raycastOf seg p → t ≡ seenNext r s → t ≡ stepOf ring i p s
-  unfolding stepOf
-  step-cast seg r t e h f g k =
-      k
-      ∙ ap (λ (x : RaycastResult). seenNext x s) (g ∙ ap (λ (x : Segment). raycastOf x p) f)
-      ∙ sym (third (s .on) (holdsHeight (segmentAt ring i) (p .y)) s (seenNext (raycastOf (segmentAt ring i) p) s) e h)
-    where
-      third : (b c : Bool) (x y : Seen) → b ≡ false → c ≡ true → cond b x (cond c y x) ≡ y
-      third b c x y u v = rw (u, v)
+  pub testing-done : (s : Seen) (at : ℕ) → Testing s at → at ≡ past
+      → (cond (s .on) edge (s .inside) ≡ testOf ring p edge (foundIn n (λ i. holdsHeight (segmentAt ring i) (p .y)) (slice start past list)))
+      × (endIn n start (slice start past list) ≡ complete)
+  testing-done s at l e =
+      let t : ℕ → Bool = λ i. holdsHeight (segmentAt ring i) (p .y) in
+      let f : foundIn n t (slice at past list) ≡ [] = rw e (found-done n t list past) in
+      (sym (settled-done ring p edge s) ∙ sym (ap (settled ring p edge s) f) ∙ l .same, sym (l .ends) ∙ rw e (end-done n t list past))

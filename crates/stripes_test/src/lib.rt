@@ -2,7 +2,8 @@
 use answers::Answer;
 use answers::Refusal;
 use boxes::Point;
-use rays::RaycastResult;
+use cast_test::Seen;
+use cast_test::step;
 use rings::Checked;
 use stripes_find::Part;
 use stripes_place::wide;
@@ -12,43 +13,6 @@ ghost use lib.ListN.{length};
 ghost use Rattle.stripes_find.specs.Search.{searched};
 ghost use Rattle.stripes_find.specs.Inner.Part.{runRead};
 ghost use Rattle.stripes_test.specs.Test.{verdict, stripesTested};
-ghost use Rattle.stripes_test.specs.Inner.Steps.{seenNext, stepOf};
-
-// What is known so far: whether the point is on a segment, and else the answer.
-struct Seen {
-    on: bool,
-    inside: bool,
-}
-
-fn next(cast: RaycastResult, seen: Seen) -> Seen
-    ensures { λ r. ⌜ r ≡ seenNext cast seen ⌝ }
-{
-    let on = seen.on;
-    let inside = seen.inside;
-    match cast {
-        RaycastResult::On => Seen { on: true, inside },
-        RaycastResult::Inside => Seen {
-            on,
-            inside: !inside,
-        },
-        RaycastResult::Neither => Seen { on, inside },
-    }
-}
-
-// What segment i makes of it.
-fn step(ring: &[i32], i: usize, p: Point, seen: Seen) -> Seen
-    requires { ⌜ i * 2 + 3 < length (now ring) ⌝ }
-    ensures { λ r. ⌜ r ≡ stepOf (now (ring .entry)) i p seen ⌝ }
-{
-    if seen.on {
-        return seen;
-    }
-    if stripes_find::holds_height(ring, i, p.y) {
-        let cast = rays::raycast(rings::segment_at(ring, i), p);
-        return next(cast, seen);
-    }
-    seen
-}
 
 // The ring test of a part of the list. Damage is looked for to the part's end, also behind an "on".
 fn test_run(

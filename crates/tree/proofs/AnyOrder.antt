@@ -1,11 +1,12 @@
--- The ring test of a list depends on how often each segment is listed, and not on the order. Assumes nothing.
-use Prim.Native.Nat.{ℕ, zero, suc, _+_, _≤_, _<_}
+-- The ring test of a list, and its length, depend on how often each segment is listed, and not on the order. Assumes nothing.
+use Prim.Native.Nat.{ℕ, suc, _+_}
 use mathlib.Core.Path.{_≡_, refl, sym, ap, _∙_}
 use mathlib.Core.List.{List, [], _∷_, _++_}
 use mathlib.Core.Bool.{Bool, true, false, not, cond}
-use mathlib.Core.Logic.{_⊎_, inl, inr, ⊎-elim}
+use mathlib.Core.Logic.{_⊎_, ⊎-elim}
 use native.Mathlib.Omega.{arith}
 use lib.Dec.{eqb}
+use lib.ListN.{length, length-append}
 use borrow.Author.Tests.{eq-eqb, ne-eqb}
 use Rattle.room.specs.Numbers.{bit, count}
 use Rattle.room.proofs.Cases.{eq-or}
@@ -82,3 +83,10 @@ module _ (on inside : ℕ → Bool) (edge : Bool) where
       after-one x xs (r .0 ++ r .1) (any-order xs (r .0 ++ r .1) (λ k. less k x xs ys (r .0) (r .1) (r .2) (h k))) answer
       ∙ sym (to-front x (r .0) (r .1) answer)
       ∙ ap (test answer) (sym (r .2))
+
+pub same-length : (xs ys : List ℕ) → ((k : ℕ) → count k xs ≡ count k ys) → length xs ≡ length ys
+same-length [] ys h = ap length (none ys (λ k. sym (count-none k) ∙ h k))
+same-length (x ∷ xs) ys h =
+    let r = find x (count x xs) ys (sym (h x) ∙ count-first x xs) in
+    let s = same-length xs (r .0 ++ r .1) (λ k. less k x xs ys (r .0) (r .1) (r .2) (h k)) in
+    omega (arith, s, ap length (r .2), length-append (r .0) (x ∷ r .1), length-append (r .0) (r .1))

@@ -1,11 +1,10 @@
 -- Searching the bytes of a tree gives its segments that hold the height, in node order. Assumes nothing.
-use Prim.Native.Nat.{ℕ, zero, suc, _+_, _-_, _*_, _^_, _≤_, _<_}
-use mathlib.Core.Path.{_≡_, refl, sym, ap, ap₂, subst, _∙_}
+use Prim.Native.Nat.{ℕ, _+_, _-_, _^_, _≤_, _<_}
+use mathlib.Core.Path.{_≡_, refl, sym, ap, ap₂, _∙_}
 use mathlib.Core.List.{List, [], _∷_, _++_, append-nil}
-use mathlib.Core.Bool.{Bool, true, false, cond, not, _||_}
+use mathlib.Core.Bool.{Bool, true, false, cond}
 use mathlib.Core.Logic.{⊎-elim}
 use native.Mathlib.Omega.{arith}
-use lib.Dec.{ltb, eqb}
 use lib.ListN.{length, getD, take, length-append}
 use lib.IntN.{ℤ}
 use lib.Ieee.{Float}
@@ -18,12 +17,11 @@ use Rattle.boxes.specs.declared.Rect.{Rect}
 use Rattle.boxes.specs.Quads.{quadBounds}
 use Rattle.rings.specs.Ring.{segmentAt, holdsHeight}
 use Rattle.varint.specs.Leb128.{encode}
-use Rattle.varint.specs.declared.ReadUvarint.the-variants.{Value}
-use Rattle.varint.specs.Uvarint.{readUvarint}
 use Rattle.varint.proofs.Back.{holds-reads}
-use Rattle.tree.specs.Tree.{Tree, empty, leaf, split, those, forEachQuadrant, differences, ownBytes, sized, packed, inOrder}
-use Rattle.tree.specs.Search.{Found, ends, upto, after, got, closed, meetsHeight, field, listed, ownFrom, own, child, children, afterOwn, nodeWith, node, searched}
-use Rattle.tree.proofs.Lists.{All, Rising, those-append}
+use Rattle.tree.specs.Tree.{Tree, leaf, split, those, forEachQuadrant, differences, ownBytes, sized, packed, inOrder}
+use Rattle.tree.specs.Search.{Found, ends, upto, after, got, closed, meetsHeight, field, listed, ownFrom, own, child, children, afterOwn, nodeWith}
+use Rattle.tree.specs.All.{All}
+use Rattle.tree.proofs.Lists.{Rising, those-append}
 use Rattle.tree.proofs.Size.{Small}
 
 pub sized-length : (bs : List ℕ) → length (sized bs) ≡ length (encode (length bs)) + length bs

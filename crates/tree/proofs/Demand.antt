@@ -1,25 +1,28 @@
 -- Demand 3 for the tree: searching the bytes of a ring's tree lists exactly the segments whose closed height range holds y, each once, in node order.
 -- Assumes nothing.
 use Prim.Native.Nat.{ℕ, zero, suc, _+_, _-_, _*_, _^_, _≤_, _<_}
-use mathlib.Core.Path.{_≡_, refl, sym, ap, ap₂, subst, _∙_}
-use mathlib.Core.List.{List, [], _∷_, _++_, append-nil}
-use mathlib.Core.Bool.{Bool, true, false, cond}
+use mathlib.Core.Path.{_≡_, refl, sym, ap, _∙_}
+use mathlib.Core.List.{List, [], _∷_, append-nil}
+use mathlib.Core.Bool.{Bool, true, false, cond, _&&_}
 use native.Mathlib.Omega.{arith}
 use native.Mathlib.Nat.{mul-le-mul-left, zero-add}
 use lib.ListN.{length, length-append}
 use lib.IntN.{ℤ}
 use lib.Ieee.{Float}
-use Rattle.room.specs.Room.{Holds}
-use Rattle.room.specs.Numbers.{consIf, keep, upTo, bit, count}
+use lib.Dec.{ltb}
+use borrow.Author.Tests.{ltb-true, ltb-false}
+use Rattle.room.specs.Numbers.{upTo, bit, count}
 use Rattle.room.proofs.Holds.{drop-holds}
 use Rattle.room.proofs.UpTo.{upTo-length}
+use Rattle.room.proofs.Count.{count-upTo, count-upTo-past}
 use Rattle.boxes.specs.declared.Rect.{Rect}
-use Rattle.boxes.specs.declared.Chosen.{Chosen}
 use Rattle.boxes.specs.Quads.{quadBounds}
-use Rattle.rings.specs.Ring.{segmentAt, holdsHeight, meeting}
-use Rattle.tree.specs.Tree.{Tree, empty, leaf, split, those, isStayer, goesTo, choice, stayers, goers, unlessEmpty, grown, ownBytes, packed, inOrder, ringBox, treeOf, maxDepth, allSegments}
-use Rattle.tree.specs.Search.{Found, End, ends, fails, upto, meetsHeight, nodeWith, node, searched}
-use Rattle.tree.proofs.Lists.{All, Rising, all-map, all-those, all-kept, rising-those, those-none, those-length, count-those, those-keep, all-keep, rising-keep}
+use Rattle.rings.specs.Ring.{segmentAt, segments, holdsHeight, meeting}
+use Rattle.tree.specs.Tree.{Tree, leaf, split, those, goesTo, choice, stayers, goers, unlessEmpty, grown, ownBytes, packed, inOrder, ringBox, treeOf, maxDepth, allSegments}
+use Rattle.tree.specs.Search.{Found, End, ends, fails, upto, meetsHeight, node, searched}
+use Rattle.tree.proofs.AnyOrder.{same-length}
+use Rattle.tree.specs.All.{All}
+use Rattle.tree.proofs.Lists.{Rising, all-map, all-those, all-kept, rising-those, those-none, those-length, count-those, those-keep, all-keep, rising-keep}
 use Rattle.tree.proofs.Share.{kidOf, grown-cases, count-grown, all-grown}
 use Rattle.tree.proofs.Size.{Small, perSegment, packed-size}
 use Rattle.tree.proofs.Order.{Inside, missed, inside-quad, inside-ring}
@@ -102,7 +105,7 @@ module _ (ring : List ℤ) (points : ℕ) (y : Float) where
 
   -- the search of the bytes of the ring's tree
   abbrev pub treeSearch : Found
-  treeSearch = searched (packed (treeOf ring points)) ring (points - 1) y (ringBox ring points)
+  treeSearch = searched (packed (treeOf ring points)) ring (segments points) y (ringBox ring points)
 
 -- a reading that ends without a refusal
 abbrev pub Whole : End → Type 0
@@ -110,7 +113,7 @@ Whole (ends p) = Unit
 Whole (fails why) = ⊥
 
 module _ (ring : List ℤ) (points : ℕ) (y : Float) (few : points ≤ 4097) where
-  root : Arriving (packed (treeOf ring points)) ring (points - 1) y maxDepth (ringBox ring points) (allSegments points)
+  root : Arriving (packed (treeOf ring points)) ring (segments points) y maxDepth (ringBox ring points) (allSegments points)
   unfolding upTo
   root =
       record {
@@ -121,7 +124,7 @@ module _ (ring : List ℤ) (points : ℕ) (y : Float) (few : points ≤ 4097) wh
         inside = all-map (λ x. x < 0 + (points - 1 - 0)) (Inside ring (ringBox ring points)) (allSegments points) (λ i h. inside-ring ring points i (omega arith)) (all-keep (λ i. true) (points - 1 - 0) 0);
       }
 
-  whole-node : node (packed (treeOf ring points)) ring (points - 1) y maxDepth (ringBox ring points) 0 (length (packed (treeOf ring points)))
+  whole-node : node (packed (treeOf ring points)) ring (segments points) y maxDepth (ringBox ring points) 0 (length (packed (treeOf ring points)))
       ≡ (those (holdsY ring points y) (inOrder (treeOf ring points)), ends (length (packed (treeOf ring points))))
   unfolding treeOf
   whole-node =
@@ -141,7 +144,7 @@ module _ (ring : List ℤ) (points : ℕ) (y : Float) (few : points ≤ 4097) wh
   tree-found = go (meetsHeight (ringBox ring points) y) refl
     where
       visited : Found
-      visited = node (packed (treeOf ring points)) ring (points - 1) y maxDepth (ringBox ring points) 0 (length (packed (treeOf ring points)))
+      visited = node (packed (treeOf ring points)) ring (segments points) y maxDepth (ringBox ring points) 0 (length (packed (treeOf ring points)))
 
       go : (b : Bool) → meetsHeight (ringBox ring points) y ≡ b
           → (cond b visited (upto 0) .0 ≡ those (holdsY ring points y) (inOrder (treeOf ring points))) × Whole (cond b visited (upto 0) .1)
@@ -158,7 +161,7 @@ module _ (ring : List ℤ) (points : ℕ) (y : Float) (few : points ≤ 4097) wh
   unfolding meeting upTo
   meeting-those = those-keep (holdsY ring points y) (points - 1 - 0) 0
 
-  -- So the search lists each segment whose own closed height range holds y exactly once, and no other.
+  -- what a search finds is what a scan finds, in another order
   pub tree-lists : (k : ℕ) → count k (treeSearch ring points y .0) ≡ count k (meeting ring points y)
   tree-lists k =
       ap (count k) (tree-found .0)
@@ -166,3 +169,18 @@ module _ (ring : List ℤ) (points : ℕ) (y : Float) (few : points ≤ 4097) wh
       ∙ ap (λ (n : ℕ). bit (holdsY ring points y k) * n) (tree-holds k)
       ∙ sym (count-those (holdsY ring points y) k (allSegments points))
       ∙ ap (count k) meeting-those
+
+  pub tree-lists-length : length (treeSearch ring points y .0) ≡ length (meeting ring points y)
+  tree-lists-length = same-length (treeSearch ring points y .0) (meeting ring points y) tree-lists
+
+  meeting-once : (k : ℕ) → count k (meeting ring points y) ≡ bit (ltb k (segments points) && holdsHeight (segmentAt ring k) y)
+  unfolding meeting
+  meeting-once k = go (ltb k (segments points)) refl
+    where
+      go : (b : Bool) → ltb k (segments points) ≡ b → count k (upTo (holdsY ring points y) (segments points) 0) ≡ bit (b && holdsY ring points y k)
+      go true e = count-upTo (holdsY ring points y) k (segments points) 0 (omega arith) (ltb-true k (segments points) e)
+      go false e = count-upTo-past (holdsY ring points y) k (segments points) 0 (ltb-false k (segments points) e)
+
+  -- So the search lists each segment of the ring whose own closed height range holds y exactly once, and no other number.
+  pub tree-lists-once : (k : ℕ) → count k (treeSearch ring points y .0) ≡ bit (ltb k (segments points) && holdsHeight (segmentAt ring k) y)
+  tree-lists-once k = tree-lists k ∙ meeting-once k

@@ -6,4 +6,5 @@ pub mod Size
 pub mod Order
 pub mod Back
 pub mod Demand
+pub mod Words
 pub mod Samples

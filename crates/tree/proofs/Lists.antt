@@ -1,20 +1,16 @@
 -- Lists of segment numbers: what holds of each, that they rise, and what is left of them by a test. Assumes nothing.
 use Prim.Native.Nat.{ℕ, zero, suc, _+_, _-_, _*_, _≤_, _<_}
-use mathlib.Core.Path.{_≡_, refl, sym, ap, ap₂, _∙_}
+use mathlib.Core.Path.{_≡_, refl, ap, ap₂, _∙_}
 use mathlib.Core.List.{List, [], _∷_, _++_}
 use mathlib.Core.Bool.{Bool, true, false}
 use native.Mathlib.Omega.{arith}
 use lib.Dec.{eqb}
 use lib.ListN.{length}
 use borrow.Author.Tests.{eqb-true}
-use Rattle.room.specs.Numbers.{consIf, keep, upTo, bit, count}
+use Rattle.room.specs.Numbers.{consIf, keep, bit, count}
 use Rattle.room.proofs.Count.{count-consIf}
+use Rattle.tree.specs.All.{All}
 use Rattle.tree.specs.Tree.{those}
-
--- P holds of each
-unfoldable pub All : (ℕ → Type 0) → List ℕ → Type 0
-All P [] = Unit
-All P (x ∷ xs) = P x × All P xs
 
 -- each is at least the one before it, the first at least `last`
 unfoldable pub Rising : ℕ → List ℕ → Type 0

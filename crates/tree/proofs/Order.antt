@@ -1,9 +1,9 @@
 -- A segment that goes to a quadrant lies in the quadrant's box, so where a box misses a height no segment below it holds it. Assumes nothing.
 use Prim.Native.Nat.{ℕ, zero, suc, _+_, _-_, _*_, _/_, _%_, _^_, _≤_, _<_, compare}
 use mathlib.Core.Path.{_≡_, refl, sym, ap, subst, _∙_}
-use mathlib.Core.List.{List, [], _∷_, _++_}
+use mathlib.Core.List.{List}
 use mathlib.Core.Bool.{Bool, true, false, cond, not, _&&_, _||_, true≢false}
-use mathlib.Core.Logic.{_⊎_, inl, inr, ⊎-elim}
+use mathlib.Core.Logic.{_⊎_, ⊎-elim}
 use native.Mathlib.Omega.{arith}
 use lib.Dec.{T, ltb}
 use borrow.Author.Tests.{eqb-true}
@@ -11,9 +11,8 @@ use Rattle.room.proofs.Cases.{lt-or}
 use lib.ListN.{getD}
 use lib.IntN.{ℤ, pos, negsuc}
 use lib.Ieee.{Float, inf, Format, binary64, prec, emax, low as low-of, odd, units, size, nearest, round, ofInt, lt, le, isNan}
-use Rattle.floats.proofs.Order.{le-left, le-right, lt-is-not-le, lt-le, lt-not-le, le-total, le-refl, le-trans, lt-le-trans, le-lt-trans}
+use Rattle.floats.proofs.Order.{le-left, le-right, lt-is-not-le, lt-le, lt-not-le, le-refl, le-trans, lt-le-trans, le-lt-trans}
 use Rattle.boxes.specs.declared.Rect.{Rect}
-use Rattle.boxes.specs.declared.Segment.{Segment}
 use Rattle.boxes.specs.Segments.{rectOf, lesser, greater}
 use Rattle.boxes.specs.Quads.{quadrant, quadBounds, midX, midY}
 use Rattle.rings.specs.Ring.{pointAt, segmentAt, holdsHeight}
@@ -41,14 +40,14 @@ not-lt x y p q e = go (le y x) refl
     go false h = absurd (true≢false (sym (ap not h) ∙ sym (lt-is-not-le x y p q) ∙ e))
 
 module _ (P : Float → Type 0) (x y : Float) where
-  lesser-either : P x → P y → P (lesser x y)
+  pub lesser-either : P x → P y → P (lesser x y)
   lesser-either p q = go (lt x y)
     where
       go : (b : Bool) → P (cond b x y)
       go true = p
       go false = q
 
-  greater-either : P x → P y → P (greater x y)
+  pub greater-either : P x → P y → P (greater x y)
   greater-either p q = go (lt x y)
     where
       go : (b : Bool) → P (cond b y x)

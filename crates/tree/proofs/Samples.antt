@@ -1,14 +1,19 @@
 -- 01's sample sheet, of the tree. S is the square (0,0) (10,0) (10,10) (0,10) (0,0).
-use Prim.Native.Nat.{ℕ}
+use Prim.Native.Nat.{ℕ, suc, _≤_, _<_}
 use mathlib.Core.Path.{_≡_, refl}
 use mathlib.Core.List.{List, [], _∷_}
+use native.Mathlib.Omega.{arith}
+use lib.ListN.{length}
 use lib.IntN.{ℤ, pos, negsuc}
-use lib.Ieee.{binary64, ofInt, round, odd, units, size, span, climb, lt, le, add, div, ofBits, ofFields}
+use lib.Ieee.{binary64, ofInt, round, odd, units, size, span, climb, lt, le}
+use borrow.Author.Tests.{le-leb, lt-leb}
+use Rattle.boxes.specs.declared.Rect.{Rect}
 use Rattle.room.specs.Numbers.{keep, upTo}
 use Rattle.varint.specs.Leb128.{encode, encodeIn, decode, size as bytesOf}
 use Rattle.varint.specs.Uvarint.{readUvarint}
-use Rattle.tree.specs.Tree.{those, grown, least, greatest, ringBox, treeOf, differences, ownBytes, packed}
-use Rattle.tree.specs.Search.{Found, ends, after, ownFrom, own, child, children, afterOwn, nodeWith, node, searched}
+use Rattle.tree.specs.Tree.{maxItems, leaf, split, stayers, grown, least, greatest, ringBox, treeOf, differences, ownBytes, packed}
+use Rattle.tree.proofs.Share.{kidOf}
+use Rattle.tree.specs.Search.{Found, ends, after, ownFrom, own, afterOwn, nodeWith, node, searched}
 
 abbrev pub square : List ℤ
 square = pos 0 ∷ pos 0 ∷ pos 10 ∷ pos 0 ∷ pos 10 ∷ pos 10 ∷ pos 0 ∷ pos 10 ∷ pos 0 ∷ pos 0 ∷ []
@@ -33,6 +38,16 @@ pub square-10 : at (pos 10) ≡ (1 ∷ 2 ∷ 3 ∷ [], ends 6)
 unfolding searched node nodeWith own ownFrom afterOwn after ringBox least greatest readUvarint decode bytesOf ofInt round odd units size span climb lt le
 square-10 = refl
 
-pub square-above : at (negsuc 0) ≡ ([], ends 0)
+pub square-below : at (negsuc 0) ≡ ([], ends 0)
 unfolding searched ringBox least greatest ofInt round odd units size span climb lt le
-square-above = refl
+square-below = refl
+
+-- 12 segments make a leaf; 13 split
+module _ (ring : List ℤ) (left : ℕ) (box : Rect) (xs : List ℕ) where
+  pub twelve : length xs ≤ 12 → grown ring (suc left) box xs ≡ leaf xs
+  unfolding grown
+  twelve h = rw (le-leb (length xs) maxItems (omega arith))
+
+  pub thirteen : 12 < length xs → grown ring (suc left) box xs ≡ split (stayers ring box xs) (kidOf ring left box xs)
+  unfolding grown
+  thirteen h = rw (lt-leb (length xs) maxItems (omega arith))

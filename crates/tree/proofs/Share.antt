@@ -1,7 +1,7 @@
 -- Each segment that arrives at a node is its own or goes to one quadrant, so the tree holds each exactly once. Assumes nothing.
-use Prim.Native.Nat.{ℕ, zero, suc, _+_, _-_, _*_, _≤_, _<_}
-use mathlib.Core.Path.{_≡_, refl, sym, ap, _∙_}
-use mathlib.Core.List.{List, [], _∷_, _++_}
+use Prim.Native.Nat.{ℕ, zero, suc, _+_, _-_, _*_, _<_}
+use mathlib.Core.Path.{_≡_, refl, ap}
+use mathlib.Core.List.{List, [], _∷_}
 use mathlib.Core.Bool.{Bool, true, false, cond, not}
 use native.Mathlib.Omega.{arith}
 use lib.Dec.{leb}
@@ -13,11 +13,12 @@ use Rattle.room.specs.Numbers.{consIf, bit, count}
 use Rattle.room.proofs.Count.{count-append}
 use Rattle.boxes.specs.declared.Rect.{Rect}
 use Rattle.boxes.specs.declared.Chosen.{Chosen}
-use Rattle.boxes.specs.Quads.{quadrant, quadBounds, chosen, midX, midY}
+use Rattle.boxes.specs.Quads.{quadrant, quadBounds, midX, midY}
 use Rattle.boxes.specs.Segments.{rectOf}
 use Rattle.rings.specs.Ring.{segmentAt}
-use Rattle.tree.specs.Tree.{maxItems, Tree, empty, leaf, split, those, goesTo, isStayer, choice, stayers, goers, unlessEmpty, grown, inOrder}
-use Rattle.tree.proofs.Lists.{All, all-append, all-kept, count-those}
+use Rattle.tree.specs.Tree.{maxItems, Tree, leaf, split, those, goesTo, isStayer, choice, stayers, goers, unlessEmpty, grown, inOrder}
+use Rattle.tree.specs.All.{All}
+use Rattle.tree.proofs.Lists.{all-append, all-kept, count-those}
 
 -- of the five ways exactly one is taken
 one-way : (w e s n : Bool)

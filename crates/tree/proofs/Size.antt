@@ -1,19 +1,18 @@
 -- How long a tree's bytes can be, and how many nodes it can have: so many for each level and segment. Assumes nothing.
 use Prim.Native.Nat.{ℕ, zero, suc, _+_, _-_, _*_, _^_, _≤_, _<_}
-use mathlib.Core.Path.{_≡_, refl, sym, ap, _∙_}
-use mathlib.Core.List.{List, [], _∷_, _++_}
-use mathlib.Core.Bool.{Bool}
+use mathlib.Core.Path.{_≡_, ap}
+use mathlib.Core.List.{List, [], _∷_}
 use native.Mathlib.Omega.{arith}
 use native.Mathlib.Nat.{mul-le-mul-left, mul-le-mul-right}
 use lib.ListN.{length, length-append}
 use lib.IntN.{ℤ}
 use Rattle.boxes.specs.declared.Rect.{Rect}
 use Rattle.boxes.specs.Quads.{quadBounds}
-use Rattle.boxes.specs.declared.Chosen.{Chosen}
 use Rattle.varint.specs.Leb128.{encode}
-use Rattle.varint.proofs.Leb128.{encode-width, encode-some}
-use Rattle.tree.specs.Tree.{Tree, empty, leaf, split, those, isStayer, goesTo, choice, stayers, goers, unlessEmpty, grown, differences, ownBytes, sized, packed, nodes}
-use Rattle.tree.proofs.Lists.{All, all-kept, those-length}
+use Rattle.varint.proofs.Leb128.{encode-width}
+use Rattle.tree.specs.Tree.{Tree, leaf, split, goesTo, choice, stayers, goers, unlessEmpty, grown, differences, ownBytes, sized, packed}
+use Rattle.tree.specs.All.{All}
+use Rattle.tree.proofs.Lists.{all-kept, those-length}
 use Rattle.tree.proofs.Share.{kidOf, grown-cases, length-shares}
 
 -- a number that the varints hold

@@ -1,6 +1,6 @@
 -- 01, "The packed tree": searching any bytes at a height, without any room.
 use Prim.Native.Nat.{ℕ, zero, suc, _+_}
-use mathlib.Core.List.{List, [], _∷_, _++_}
+use mathlib.Core.List.{List, [], _++_}
 use mathlib.Core.Bool.{Bool, true, false, not, cond, _||_}
 use lib.Dec.{ltb, eqb}
 use lib.ListN.{length, getD, take}

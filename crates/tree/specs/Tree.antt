@@ -12,8 +12,8 @@ use Rattle.boxes.specs.declared.Chosen.{Chosen}
 use Rattle.boxes.specs.declared.Chosen.the-variants.{Quadrant, Stays}
 use Rattle.boxes.specs.Quads.{chosen, quadBounds}
 use Rattle.boxes.specs.Segments.{rectOf, pointOf, lesser, greater}
-use Rattle.rings.specs.Ring.{pointAt, segmentAt}
-use Rattle.room.specs.Numbers.{consIf, upTo}
+use Rattle.rings.specs.Ring.{pointAt, segmentAt, segments, numbers}
+use Rattle.room.specs.Numbers.{consIf}
 use Rattle.varint.specs.Leb128.{encode}
 use Rattle.tree.specs.declared.QuadTree.{QuadTree}
 
@@ -91,7 +91,7 @@ ringBox ring points =
 
 -- all segments of a ring of this many points, by rising number
 abbrev pub allSegments : ℕ → List ℕ
-allSegments points = upTo (λ i. true) (points - 1) 0
+allSegments points = numbers (segments points)
 
 -- the tree of a ring: all its segments arrive at the root, whose box is the ring's
 unfoldable pub treeOf : List ℤ → ℕ → Tree
@@ -131,7 +131,7 @@ nodes (split xs kids) = 1 + (nodes (kids 0) + nodes (kids 1) + nodes (kids 2) + 
 
 -- "six work numbers a node, root included, and one a segment"
 abbrev pub workNumbers : List ℤ → ℕ → ℕ
-workNumbers ring points = 6 * nodes (treeOf ring points) + (points - 1)
+workNumbers ring points = 6 * nodes (treeOf ring points) + segments points
 
 -- node order: "Own segments first, then quadrants", "0 to 3"
 unfoldable pub inOrder : Tree → List ℕ
@@ -141,4 +141,4 @@ inOrder (split xs kids) = xs ++ forEachQuadrant (λ q. inOrder (kids q))
 
 -- what a tree is read and built by
 abbrev pub quadTreeOf : List ℤ → ℕ → QuadTree
-quadTreeOf ring points = record { bounds = ringBox ring points; segments = points - 1 }
+quadTreeOf ring points = record { bounds = ringBox ring points; segments = segments points }

@@ -1,12 +1,11 @@
 -- From how far a search came to what is answered. Assumes nothing.
-use Prim.Native.Nat.{ℕ, zero, suc, _+_, _-_, _≤_, _<_}
+use Prim.Native.Nat.{ℕ, _+_, _-_, _≤_, _<_}
 use mathlib.Core.Path.{_≡_, refl, sym, ap, ap₂, _∙_}
-use mathlib.Core.List.{List, [], _∷_, _++_}
-use mathlib.Core.Bool.{Bool, true, false, cond, not, _&&_, true≢false}
+use mathlib.Core.List.{List, [], _∷_}
+use mathlib.Core.Bool.{Bool, true, false, cond, not, _&&_}
 use mathlib.Core.Logic.{⊎-elim}
 use native.Mathlib.Omega.{arith}
 use native.Mathlib.Nat.{add-zero, zero-add}
-use lib.Dec.{leb, ltb}
 use lib.ListN.{length, set, replicate, length-set, length-replicate}
 use lib.IntN.{ℤ}
 use lib.Ieee.{Float}
@@ -24,22 +23,19 @@ use Rattle.rays.specs.Raycast.{raycastOf}
 use Rattle.rings.specs.Ring.{segmentAt, segments}
 use Rattle.rings.specs.declared.Checked.{Checked}
 use Rattle.rings.specs.declared.Checked.the-variants.{Sound, Faulty}
-use Rattle.rings.specs.Checks.{ringChecked}
+use Rattle.rings.specs.Checks.{ringChecked, whenSound}
 use Rattle.rings.specs.RingTest.{testFrom}
-use Rattle.room.specs.Room.{write, pad}
+use Rattle.room.specs.Room.{write}
 use Rattle.room.proofs.Cases.{lt-or}
 use Rattle.room.proofs.Fill.{write-pad}
+use Rattle.cast_test.specs.Test.{isOn, isInside}
 use Rattle.tree.specs.Search.{Found, End, ends, fails, searched}
 use Rattle.tree.specs.Tree.{ringBox}
 use Rattle.tree_find.specs.declared.Seen.{Seen}
-use Rattle.tree_find.specs.declared.Taken.{Taken}
-use Rattle.tree_find.specs.declared.Taken.the-variants.{Kept, Overfull}
-use Rattle.tree_find.specs.declared.Walk.{Walk}
 use Rattle.tree_find.specs.declared.Walk.the-variants.{Reached, Stopped}
-use Rattle.tree_find.specs.declared.TreeListed.{TreeListed}
 use Rattle.tree_find.specs.declared.TreeListed.the-variants.{TreeFound, TreeUnlisted}
 use Rattle.tree_find.specs.Inner.Walks.{Out, start, shown, listStep, testStep, testedOf, unlessOn, cast, onward, poured, pour}
-use Rattle.tree_find.specs.Find.{Outcome, refused, ended, answered, listWhenSound, treeListed, testWhenSound, treeTested, isOn, isInside, testOf, verdict}
+use Rattle.tree_find.specs.Find.{Outcome, answered, listWhenSound, treeListed, treeTested, verdict}
 
 -- what the calls do with a sound ring
 abbrev listLater : List ℤ → ℕ → List ℕ → Float → List ℕ → Outcome
@@ -201,12 +197,12 @@ module _ (ring : List ℤ) (points : ℕ) (bytes : List ℕ) where
   module _ (p : Point) (edge : Bool) where
     pub tested-faulty : (why : Refusal) → ringChecked ring points ≡ Faulty why → Refused why ≡ treeTested ring points bytes p edge
     unfolding treeTested
-    tested-faulty why e = sym (ap (λ (c : Checked). testWhenSound c (testLater ring points bytes p edge)) e)
+    tested-faulty why e = sym (ap (λ (c : Checked). whenSound c (testLater ring points bytes p edge)) e)
 
     module _ (e : ringChecked ring points ≡ Sound) where
       sound-test : treeTested ring points bytes p edge ≡ testLater ring points bytes p edge
       unfolding treeTested
-      sound-test = ap (λ (c : Checked). testWhenSound c (testLater ring points bytes p edge)) e
+      sound-test = ap (λ (c : Checked). whenSound c (testLater ring points bytes p edge)) e
 
       pub tested-unfit : (finite (p .x) && finite (p .y)) ≡ false → No ≡ treeTested ring points bytes p edge
       tested-unfit f = sym (sound-test ∙ ap (λ (b : Bool). cond b (verdict ring p edge (searched bytes ring (segments points) (p .y) (ringBox ring points))) No) f)

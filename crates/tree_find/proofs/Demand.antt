@@ -1,6 +1,6 @@
 -- Demand 3 as the calls have it: on the bytes of a ring's own tree the list is the segments that hold the height, in node order, and the ring test is
 -- that of the scan. Assumes nothing.
-use Prim.Native.Nat.{ℕ, _≤_}
+use Prim.Native.Nat.{ℕ}
 use mathlib.Core.Path.{_≡_, refl, sym, ap, _∙_}
 use mathlib.Core.List.{List}
 use mathlib.Core.Bool.{Bool, true, false, cond, _&&_}
@@ -8,21 +8,21 @@ use lib.ListN.{length}
 use lib.IntN.{ℤ}
 use lib.Ieee.{Float}
 use lib.Ieee.Scale.{finite}
-use Rattle.answers.specs.declared.Answer.{Answer}
 use Rattle.answers.specs.declared.Answer.the-variants.{No}
 use Rattle.answers.specs.Answers.{said}
 use Rattle.boxes.specs.declared.Point.{Point}
 use Rattle.rays.specs.Raycast.{raycastOf}
-use Rattle.rings.specs.declared.Checked.{Checked}
 use Rattle.rings.specs.declared.Checked.the-variants.{Sound}
-use Rattle.rings.specs.Ring.{segmentAt, segments, holdsHeight, meeting}
+use Rattle.rings.specs.Ring.{segmentAt, holdsHeight, meeting}
 use Rattle.rings.specs.Checks.{ringChecked}
 use Rattle.rings.proofs.Checks.{sound-ring}
-use Rattle.tree.specs.Tree.{those, inOrder, packed, treeOf, ringBox}
-use Rattle.tree.specs.Search.{Found, End, ends, fails, searched}
+use Rattle.cast_test.specs.Test.{isOn, isInside, testOf, scanTest, scanTested}
+use Rattle.cast_test.proofs.Scan.{tested-checked}
+use Rattle.tree.specs.Tree.{those, inOrder, packed, treeOf}
+use Rattle.tree.specs.Search.{Found, ends, fails}
 use Rattle.tree.proofs.AnyOrder.{any-order}
 use Rattle.tree.proofs.Demand.{Whole, treeSearch, tree-found, tree-lists}
-use Rattle.tree_find.specs.Find.{Outcome, ended, answered, treeListed, isOn, isInside, testOf, verdict, treeTested}
+use Rattle.tree_find.specs.Find.{answered, treeListed, verdict, treeTested}
 use Rattle.tree_find.proofs.Answers.{listed-sound, tested-sound, tested-unfit}
 
 -- what a reading that refuses nothing is
@@ -40,7 +40,8 @@ whole-verdict ring p edge (xs, ends q) w = refl
 whole-verdict ring p edge (xs, fails why) w = absurd w
 
 module _ (ring : List ℤ) (points : ℕ) (sound : ringChecked ring points ≡ Sound) where
-  -- the list call: the segments of the ring that hold y, in node order, in the room or refused for want of it
+  -- The list call: the segments of the ring that hold y, in node order, in the room or refused for want of it. `ends 0` says only that nothing is
+  -- refused: the answer is the same at any place.
   pub lists-all : (y : Float) (room : List ℕ) → finite y ≡ true
       → treeListed ring points (packed (treeOf ring points)) y room
       ≡ answered (length room) (those (λ i. holdsHeight (segmentAt ring i) y) (inOrder (treeOf ring points)), ends 0)
@@ -54,7 +55,7 @@ module _ (ring : List ℤ) (points : ℕ) (sound : ringChecked ring points ≡ S
 
   -- the ring test: the scan's, for every point and both edge rules
   pub tests-as-scan : (p : Point) (edge : Bool)
-      → treeTested ring points (packed (treeOf ring points)) p edge ≡ cond (finite (p .x) && finite (p .y)) (said (testOf ring p edge (meeting ring points (p .y)))) No
+      → treeTested ring points (packed (treeOf ring points)) p edge ≡ scanTest ring points p edge
   tests-as-scan p edge = go (finite (p .x) && finite (p .y)) refl
     where
       go : (b : Bool) → (finite (p .x) && finite (p .y)) ≡ b
@@ -65,3 +66,8 @@ module _ (ring : List ℤ) (points : ℕ) (sound : ringChecked ring points ≡ S
           ∙ whole-verdict ring p edge (treeSearch ring points (p .y)) (tree-found ring points (p .y) few .1)
           ∙ ap said (any-order (λ i. isOn (raycastOf (segmentAt ring i) p)) (λ i. isInside (raycastOf (segmentAt ring i) p)) edge (treeSearch ring points (p .y) .0) (meeting ring points (p .y)) (tree-lists ring points (p .y) few) false)
       go false e = sym (tested-unfit ring points (packed (treeOf ring points)) p edge sound e)
+
+  -- and so what the scan's own call answers
+  pub tests-as-scanned : (p : Point) (edge : Bool)
+      → treeTested ring points (packed (treeOf ring points)) p edge ≡ scanTested ring points p edge
+  tests-as-scanned p edge = tests-as-scan p edge ∙ sym (tested-checked ring points p edge sound)

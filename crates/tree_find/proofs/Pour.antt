@@ -1,11 +1,9 @@
 -- How what is found is taken, one reading after another. Assumes nothing.
-use Prim.Native.Nat.{ℕ, zero, suc, _+_, _-_, _≤_, _<_}
+use Prim.Native.Nat.{ℕ, _+_, _-_}
 use mathlib.Core.Path.{_≡_, refl, sym, ap, _∙_}
 use mathlib.Core.List.{List, [], _∷_, _++_}
-use mathlib.Core.Bool.{Bool, true, false}
 use Rattle.answers.specs.declared.Refusal.{Refusal}
-use Rattle.answers.specs.declared.Refusal.the-variants.{NoRoom}
-use Rattle.tree.specs.Search.{Found, End, ends, fails, after}
+use Rattle.tree.specs.Search.{Found, ends, fails, after}
 use Rattle.tree_find.specs.declared.Seen.{Seen}
 use Rattle.tree_find.specs.declared.Taken.{Taken}
 use Rattle.tree_find.specs.declared.Taken.the-variants.{Kept, Overfull}

@@ -1,12 +1,12 @@
 -- The search by the ways through its definition, one law for each: what the functions' proofs go by. Assumes nothing.
 use Prim.Native.Nat.{ℕ, zero, suc, _+_, _-_, _%_, _^_, _≤_, _<_, min}
 use mathlib.Core.Path.{_≡_, refl, sym, ap, _∙_}
-use mathlib.Core.List.{List, [], _∷_}
+use mathlib.Core.List.{List, []}
 use mathlib.Core.Bool.{Bool, true, false, cond, true≢false}
 use native.Mathlib.Omega.{arith}
 use native.Mathlib.Nat.{not-suc-le-zero}
 use native.Mathlib.Numerals.{sub-one}
-use lib.Dec.{eqb, ltb, leb}
+use lib.Dec.{eqb, leb}
 use lib.ListN.{length, getD, take, drop, length-take, length-drop}
 use lib.IntN.{ℤ}
 use lib.Ieee.{Float}
@@ -14,7 +14,6 @@ use borrow.Author.Tests.{lt-ltb, le-ltb, leb-true, eq-eqb, ne-eqb}
 use Rattle.answers.specs.declared.Refusal.{Refusal}
 use Rattle.answers.specs.declared.Refusal.the-variants.{NoRoom, Damaged}
 use Rattle.boxes.specs.declared.Point.{Point}
-use Rattle.boxes.specs.declared.Segment.{Segment}
 use Rattle.rays.specs.declared.RaycastResult.{RaycastResult}
 use Rattle.rays.specs.Raycast.{raycastOf}
 use Rattle.boxes.specs.declared.Rect.{Rect}
@@ -26,13 +25,11 @@ use Rattle.varint.specs.Leb128.{decode, size}
 use Rattle.varint.specs.Uvarint.{most, readUvarint}
 use Rattle.varint.proofs.Leb128.{size-some}
 use Rattle.room.specs.Numbers.{consIf}
-use Rattle.tree.specs.Search.{Found, ends, upto, damaged, after, got, closed, listed, meetsHeight, ownFrom, own, child, children, afterOwn, bySplit, nodeWith, node, searched}
+use Rattle.tree.specs.Search.{Found, ends, upto, damaged, after, closed, listed, meetsHeight, ownFrom, own, child, children, afterOwn, bySplit, nodeWith, node, searched}
 use Rattle.tree_find.specs.declared.Seen.{Seen}
-use Rattle.tree_find.specs.declared.Taken.{Taken}
 use Rattle.tree_find.specs.declared.Taken.the-variants.{Kept, Overfull}
-use Rattle.tree_find.specs.declared.Walk.{Walk}
 use Rattle.tree_find.specs.declared.Walk.the-variants.{Reached, Stopped}
-use Rattle.tree_find.specs.Inner.Walks.{Step, Taking, Out, cast, unlessOn, testedOf, stepIf, onward, poured, pour, then, finishOf, below, childrenFrom, childrenTo}
+use Rattle.tree_find.specs.Inner.Walks.{Step, Out, cast, unlessOn, testedOf, stepIf, onward, poured, pour, then, finishOf, below, childrenFrom, childrenTo}
 use Rattle.tree_find.proofs.Pour.{pour-after}
 
 module _ (step : Step) (bytes : List ℕ) (ring : List ℤ) (segments : ℕ) (y : Float) where
@@ -194,11 +191,10 @@ module _ (step : Step) (bytes : List ℕ) (ring : List ℤ) (segments : ℕ) (y 
   search-node box s o m = rw m
 
 -- ---- one segment's test
-pub tested-cast : (ring : List ℤ) (p : Point) (i : ℕ) (seen : Seen) (s : Segment) (r r′ : RaycastResult) → seen .on ≡ false → s ≡ segmentAt ring i → r ≡ raycastOf s p → r ≡ r′
+pub tested-cast : (ring : List ℤ) (p : Point) (i : ℕ) (seen : Seen) (r r′ : RaycastResult) → seen .on ≡ false → r ≡ raycastOf (segmentAt ring i) p → r ≡ r′
     → cast r′ seen ≡ testedOf ring p i seen
 unfolding testedOf
-tested-cast ring p i seen s r r′ h a b c =
-    ap (λ (z : RaycastResult). cast z seen) (sym c ∙ b ∙ ap (λ (z : Segment). raycastOf z p) a) ∙ off (seen .on) h
+tested-cast ring p i seen r r′ h b c = ap (λ (z : RaycastResult). cast z seen) (sym c ∙ b) ∙ off (seen .on) h
   where
     off : (b : Bool) → b ≡ false → cast (raycastOf (segmentAt ring i) p) seen ≡ unlessOn b seen (cast (raycastOf (segmentAt ring i) p) seen)
     off true e = absurd (true≢false e)

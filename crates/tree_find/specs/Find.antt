@@ -1,7 +1,7 @@
 -- What the calls on a tree answer, and what they leave in the lent room.
 use Prim.Native.Nat.{ℕ}
 use mathlib.Core.List.{List}
-use mathlib.Core.Bool.{Bool, true, false, cond, _&&_}
+use mathlib.Core.Bool.{Bool, cond, _&&_}
 use lib.Dec.{leb}
 use lib.ListN.{length, replicate}
 use lib.IntN.{ℤ}
@@ -13,14 +13,11 @@ use Rattle.answers.specs.declared.Answer.{Answer}
 use Rattle.answers.specs.declared.Answer.the-variants.{No, Refused}
 use Rattle.answers.specs.Answers.{said}
 use Rattle.boxes.specs.declared.Point.{Point}
-use Rattle.rays.specs.declared.RaycastResult.{RaycastResult}
-use Rattle.rays.specs.declared.RaycastResult.the-variants.{On, Inside, Neither}
-use Rattle.rays.specs.Raycast.{raycastOf}
 use Rattle.rings.specs.declared.Checked.{Checked}
 use Rattle.rings.specs.declared.Checked.the-variants.{Sound, Faulty}
-use Rattle.rings.specs.Ring.{segmentAt, segments}
-use Rattle.rings.specs.Checks.{ringChecked}
-use Rattle.rings.specs.RingTest.{ringTest}
+use Rattle.rings.specs.Ring.{segments}
+use Rattle.rings.specs.Checks.{ringChecked, whenSound}
+use Rattle.cast_test.specs.Test.{testOf}
 use Rattle.room.specs.Room.{pad}
 use Rattle.tree.specs.Tree.{ringBox}
 use Rattle.tree.specs.Search.{Found, End, ends, fails, searched}
@@ -57,31 +54,13 @@ treeListed ring points bytes y room =
     (cond (finite y) (answered (length room) (searched bytes ring (segments points) y (ringBox ring points))) (TreeUnlisted BadHeight, room))
 
 -- ---- the ring test
-abbrev pub isOn : RaycastResult → Bool
-isOn On = true
-isOn Inside = false
-isOn Neither = false
-
-abbrev pub isInside : RaycastResult → Bool
-isInside On = false
-isInside Inside = true
-isInside Neither = false
-
--- the ring test of listed segments
-abbrev pub testOf : List ℤ → Point → Bool → List ℕ → Bool
-testOf ring p edge listed = ringTest (λ i. isOn (raycastOf (segmentAt ring i) p)) (λ i. isInside (raycastOf (segmentAt ring i) p)) edge listed
-
 -- "It answers as if the list were complete before the first segment is tested, so damage met anywhere in listing refuses"
 unfoldable pub verdict : List ℤ → Point → Bool → Found → Answer
 verdict ring p edge (xs, ends q) = said (testOf ring p edge xs)
 verdict ring p edge (xs, fails why) = Refused why
 
-abbrev pub testWhenSound : Checked → Answer → Answer
-testWhenSound Sound later = later
-testWhenSound (Faulty why) later = Refused why
-
 -- "a query that is NaN or infinite .. is outside"
 unfoldable pub treeTested : List ℤ → ℕ → List ℕ → Point → Bool → Answer
 treeTested ring points bytes p edge =
-    testWhenSound (ringChecked ring points)
+    whenSound (ringChecked ring points)
     (cond (finite (p .x) && finite (p .y)) (verdict ring p edge (searched bytes ring (segments points) (p .y) (ringBox ring points))) No)

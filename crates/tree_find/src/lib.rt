@@ -4,21 +4,20 @@ use answers::Refusal;
 use boxes::Point;
 use boxes::Rect;
 use boxes::quad_bounds;
+use cast_test::cast_at;
 use rays::RaycastResult;
-use rays::raycast;
 use rings::Checked;
 use rings::check_ring;
-use rings::segment_at;
+use rings::holds_height;
 use room::zero_fill_u32;
+use room::zero_from_u32;
 use tree::QuadTree;
 use varint::ReadUvarint;
 use varint::read_uvarint;
 ghost use mathlib.Core.Path.{_≡_};
-ghost use mathlib.Core.Bool.{false, _&&_, _||_, not};
 ghost use Prim.Native.Nat.{_+_, _*_, _<_, _≤_};
-ghost use lib.ListN.{length, replicate};
+ghost use lib.ListN.{length};
 ghost use lib.Dec.{eqb};
-ghost use lib.Ieee.{lt, le};
 ghost use Rattle.rings.specs.Ring.{segmentAt, holdsHeight};
 ghost use Rattle.tree.specs.Search.{meetsHeight, ownFrom, own, child, node, searched};
 ghost use Rattle.tree_find.specs.Find.{answered, verdict, treeListed, treeTested};
@@ -57,16 +56,6 @@ pub enum TreeListed {
     TreeUnlisted(Refusal),
 }
 
-// Whether the segment's closed height range holds y.
-fn holds_height(coords: &[i32], i: usize, y: f64) -> bool
-    requires { ⌜ i * 2 + 3 < length (now coords) ⌝ }
-    ensures { λ r. ⌜ r ≡ holdsHeight (segmentAt (now (coords .entry)) i) y ⌝ }
-{
-    let a = coords[i * 2 + 1] as f64;
-    let b = coords[i * 2 + 3] as f64;
-    ((a <= y) & (y <= b)) | ((b <= y) & (y <= a))
-}
-
 // Whether the box meets the height line, touching included.
 fn meets_height(bounds: Rect, y: f64) -> bool
     ensures { λ r. ⌜ r ≡ meetsHeight bounds y ⌝ }
@@ -99,7 +88,7 @@ fn test_one(coords: &[i32], i: usize, p: Point, seen: Seen) -> Seen
     if seen.on {
         return seen;
     }
-    match raycast(segment_at(coords, i), p) {
+    match cast_at(coords, i, p) {
         RaycastResult::On => Seen {
             count: seen.count,
             on: true,
@@ -401,7 +390,7 @@ pub fn list_in(tree: QuadTree, coords: &[i32], bytes: &[u8], y: f64, out: &mut [
     match search(tree, coords, bytes, y, Task::Listing, out) {
         Walk::Reached(_, seen) => TreeListed::TreeFound(seen.count),
         Walk::Stopped(why) => {
-            zero_fill_u32(out);
+            zero_from_u32(out, 0);
             TreeListed::TreeUnlisted(why)
         }
     }

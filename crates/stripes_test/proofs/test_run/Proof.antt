@@ -9,7 +9,8 @@ use Rattle.answers.specs.declared.Answer.{Answer}
 use Rattle.answers.specs.Answers.{said}
 use Rattle.rings.specs.Ring.{segmentAt, holdsHeight}
 use Rattle.stripes_find.specs.Search.{Ending, foundIn}
-use Rattle.stripes_test.specs.Test.{unless, testOf}
+use Rattle.cast_test.specs.Test.{testOf}
+use Rattle.stripes_test.specs.Test.{unless}
 use Rattle.stripes_test.proofs.Steps.{Testing, testing-start, testing-more, testing-broken, testing-done}
 use Rattle.stripes_test.proofs.test_run.Statement.{statement}
 use Rattle.stripes_test.proofs.test_run.Tie as tie

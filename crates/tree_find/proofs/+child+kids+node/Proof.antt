@@ -155,7 +155,7 @@ kids-same-length t c = search needs
 
 -- src/lib.rt:267:35
 kids-returns : (t : ℕ) → kids-lts.Need-returns (kids-claims t) (kids-at t) kids.Post kids-Inv-loop kids-μ-loop
-kids-returns t c = c .before .before .before .before .before .before .before .before .loop .inv .0 ∙ kids-more _ _ _ _ _ _ _ _ _ _ _ _ _ (c .before .before .before .before .before .before .before .loop-test .taken) ∙ then-stop _ _ _ _ (told (c .before .before .before .before .before .child .ensures) (c .before .why .given .1))
+kids-returns t c = c .before .before .before .before .before .before .before .before .loop .inv .0 ∙ kids-more _ _ _ _ _ _ _ _ _ _ _ _ _ (omega (arith, c .before .before .before .before .before .before .before .loop-test .taken)) ∙ then-stop _ _ _ _ (told (c .before .before .before .before .before .child .ensures) (c .before .why .given .1))
 
 -- src/lib.rt:268:27
 kids-enum-known-next : (t : ℕ) → kids-lts.Need-enum-known-next (kids-claims t) (kids-at t) kids.Post kids-Inv-loop kids-μ-loop
@@ -171,7 +171,7 @@ kids-loop-less t c = search needs
 
 -- src/lib.rt:265:5
 kids-loop-again : (t : ℕ) → kids-lts.Need-loop-again (kids-claims t) (kids-at t) kids.Post kids-Inv-loop kids-μ-loop
-kids-loop-again t c = (c .before .before .before .before .before .before .before .before .loop .inv .0 ∙ kids-more _ _ _ _ _ _ _ _ _ _ _ _ _ (c .before .before .before .before .before .before .before .loop-test .taken) ∙ then-go _ _ _ _ _ (told (c .before .before .before .before .before .child .ensures) (c .before .next .given .1)), search needs)
+kids-loop-again t c = (c .before .before .before .before .before .before .before .before .loop .inv .0 ∙ kids-more _ _ _ _ _ _ _ _ _ _ _ _ _ (omega (arith, c .before .before .before .before .before .before .before .loop-test .taken)) ∙ then-go _ _ _ _ _ (told (c .before .before .before .before .before .child .ensures) (c .before .next .given .1)), search needs)
 
 -- src/lib.rt:275:5
 kids-finish-requires : (t : ℕ) → kids-lts.Need-finish-requires (kids-claims t) (kids-at t) kids.Post kids-Inv-loop kids-μ-loop

@@ -11,6 +11,7 @@ use Rattle.tree_find.proofs.list_in.Statement.{statement}
 use Rattle.tree_find.proofs.list_in.Tie as tie
 use Rattle.tree_find.proofs.list_in.Reads as reads
 use Rattle.tree_find.proofs.list_in.Lts as lts
+use Rattle.room.proofs.Fill.{pad-none}
 use Rattle.room.proofs.zero_fill_u32.Reads as zero-fill-u32-reads
 use Rattle.tree_find.proofs.search.Reads as search-reads
 
@@ -31,8 +32,8 @@ enum-known-why : tie.Need-enum-known-why
 enum-known-why c = search needs
 
 -- src/lib.rt:355:13
-zero-fill-u32-requires-2 : tie.Need-zero-fill-u32-requires-2
-zero-fill-u32-requires-2 c κs = search needs
+zero-from-u32-requires : tie.Need-zero-from-u32-requires
+zero-from-u32-requires c κs = search needs
 
 -- src/lib.rt:347:1
 same-length : tie.Need-same-length
@@ -48,7 +49,7 @@ same-length-2 c = search needs
 
 -- src/lib.rt:347:1
 returns-2 : tie.Need-returns-2
-returns-2 c = list-cleared _ _ _ _ _ (told (rw (c .before .before .before .before .before .before .before .before .before .before .before .before .before .zero-fill-u32 .ensures) at (c .before .before .before .before .before .before .before .before .before .search .ensures)) (c .before .before .before .before .before .why .given .1)) (c .before .before .before .before .before .before .before .before .before .search .kept .1 .1 .1 .1 .1 .0 ∙ c .before .before .before .before .before .before .before .before .before .before .before .before .before .zero-fill-u32 .kept .0) (c .before .before .zero-fill-u322 .ensures)
+returns-2 c = list-cleared _ _ _ _ _ (told (rw (c .before .before .before .before .before .before .before .before .before .before .before .before .before .zero-fill-u32 .ensures) at (c .before .before .before .before .before .before .before .before .before .search .ensures)) (c .before .before .before .before .before .why .given .1)) (c .before .before .before .before .before .before .before .before .before .search .kept .1 .1 .1 .1 .1 .0 ∙ c .before .before .before .before .before .before .before .before .before .before .before .before .before .zero-fill-u32 .kept .0) (c .before .before .zero-from-u32 .ensures ∙ pad-none _)
 
 pub list-in-spec : {M : Type 1} → statement M
 list-in-spec =
@@ -58,7 +59,7 @@ list-in-spec =
     search-requires
     enum-known-seen
     enum-known-why
-    zero-fill-u32-requires-2
+    zero-from-u32-requires
     same-length
     returns
     same-length-2

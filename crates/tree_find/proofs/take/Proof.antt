@@ -5,7 +5,7 @@ use Rattle.tree_find.proofs.take.Statement.{statement}
 use Rattle.tree_find.proofs.take.Tie as tie
 use Rattle.tree_find.proofs.take.Reads as reads
 use Rattle.tree_find.proofs.take.Lts as lts
-use Rattle.tree_find.proofs.holds_height.Reads as holds-height-reads
+use Rattle.rings.proofs.holds_height.Reads as holds-height-reads
 use Rattle.tree_find.proofs.list_one.Reads as list-one-reads
 use Rattle.tree_find.proofs.test_one.Reads as test-one-reads
 

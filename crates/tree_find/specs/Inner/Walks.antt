@@ -6,7 +6,6 @@ use lib.Dec.{ltb, eqb}
 use lib.ListN.{length, set}
 use lib.IntN.{ℤ}
 use lib.Ieee.{Float}
-use Rattle.answers.specs.declared.Refusal.{Refusal}
 use Rattle.answers.specs.declared.Refusal.the-variants.{NoRoom, Damaged}
 use Rattle.boxes.specs.declared.Point.{Point}
 use Rattle.boxes.specs.declared.Rect.{Rect}

@@ -1,0 +1,3 @@
+pub mod Turned
+pub mod Halves
+pub mod Classes
