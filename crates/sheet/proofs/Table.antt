@@ -1,34 +1,47 @@
--- The starred cases of 01's sample sheet hold, by computing.
+-- The starred cases of 01's sample sheet hold, by computing. Where the edge rule is left open, the place is on no segment of the exterior.
 use mathlib.Core.Path.{refl}
 use lib.Ieee.{ofInt, ofBits, toBits, le, lt, eq, ne, sub, mul, div, isNan}
 use Rattle.floats.specs.Next.{nextUp}
 use Rattle.room.specs.Numbers.{keep, upTo}
 use Rattle.rings.specs.Ring.{meeting}
-use Rattle.rings.specs.Checks.{ringChecked, gridChecked, allWithin}
+use Rattle.rings.specs.Checks.{allWithin}
 use Rattle.rings.specs.RingTest.{testFrom}
 use Rattle.whole.specs.Round.{roundTo}
 use Rattle.grid.specs.Grid.{cross, isOn, isFlip}
-use Rattle.grid.specs.Rings.{gridRing}
 use Rattle.rays.specs.Raycast.{firstSteps, lastSteps, raycastOf}
 use Rattle.stripes_place.specs.Stripe.{stripeOf}
 use Rattle.whole.specs.Floor.{floorWithin}
 use Rattle.varint.specs.Leb128.{decode, size, encode, encodeIn}
 use Rattle.varint.specs.Uvarint.{readUvarint}
+use Rattle.tree.specs.Tree.{treeOf, grown, differences, ownBytes, packed}
+use Rattle.outline_check.specs.Outline.{startOf, ringOf}
+use Rattle.outline_check.specs.Rules.{forFrom, shapeWith, scaleChecked, outlineWith}
+use Rattle.outline_record.specs.Record.{leastZ, greatestZ, boxNumbers, boxesTo}
+use Rattle.outline_ring.specs.RingIndex.{ringAsked}
+use Rattle.outline_ask.specs.Query.{scaledQuery}
+use Rattle.outline_ask.specs.Inside.{holesFrom, throughRings, insideOf}
 use Rattle.sheet.specs.Sheet.{SampleSheet}
 
 pub sample-sheet : SampleSheet
-unfolding stripeOf floorWithin mul meeting upTo keep gridRing gridChecked ringChecked allWithin testFrom cross isOn isFlip roundTo raycastOf firstSteps lastSteps ne sub div ofInt le lt eq encode encodeIn readUvarint decode size nextUp ofBits toBits isNan
+unfolding insideOf throughRings holesFrom scaledQuery ringAsked boxesTo boxNumbers leastZ greatestZ outlineWith shapeWith scaleChecked forFrom startOf ringOf packed ownBytes differences treeOf grown stripeOf floorWithin mul meeting upTo keep allWithin testFrom cross isOn isFlip roundTo raycastOf firstSteps lastSteps ne sub div ofInt le lt eq encode encodeIn readUvarint decode size nextUp ofBits toBits isNan
 sample-sheet =
     record {
-      sides-within = refl;
-      sides-right-of = refl;
-      sides-on = refl;
-      snapped-edge-out = refl;
-      snapped-edge-in = refl;
-      snapped-out = refl;
+      holds-5-5 = λ edge. refl;
+      out-11-5 = λ edge. refl;
+      edge-excluded = refl;
+      edge-allowed = refl;
+      in-hole = λ edge. refl;
+      around-hole = λ edge. refl;
+      on-rim = λ edge. refl;
+      snaps-to-edge = refl;
+      snapped-excluded = refl;
+      snapped-allowed = refl;
+      snaps-away = refl;
+      snapped-out = λ edge. refl;
       list-at-0 = refl;
       list-at-10 = refl;
       list-below = refl;
+      packs = refl;
       three-hundred = refl;
       eighty-nought = refl;
       stripe-of-5 = refl;

@@ -1,6 +1,7 @@
 -- 01, "Sample sheet": the cases marked *, one field a case, each as an equation of the public definitions. `proofs/Table.antt` proves them all.
 use mathlib.Core.Path.{_≡_}
-use mathlib.Core.List.{List, [], _∷_}
+use mathlib.Core.List.{List, [], _∷_, _++_}
+use Prim.Native.Nat.{ℕ}
 use lib.IntN.{ℤ, pos, negsuc}
 use mathlib.Core.Bool.{Bool, true, false}
 use lib.Ieee.{Float, binary64, ofInt, ofBits, toBits}
@@ -8,48 +9,80 @@ use Rattle.floats.specs.Next.{nextUp}
 use Rattle.varint.specs.Leb128.{encode}
 use Rattle.varint.specs.Uvarint.{readUvarint}
 use Rattle.varint.specs.declared.ReadUvarint.the-variants.{Value}
-use Rattle.whole.specs.Round.{roundTo}
 use Rattle.boxes.specs.declared.Point.{Point}
-use Rattle.rings.specs.Ring.{segmentAt, meeting}
-use Rattle.rays.specs.declared.RaycastResult.{RaycastResult}
-use Rattle.rays.specs.declared.RaycastResult.the-variants.{On, Inside, Neither}
-use Rattle.rays.specs.Raycast.{raycastOf}
+use Rattle.rings.specs.Ring.{meeting}
 use Rattle.answers.specs.declared.Answer.{Answer}
 use Rattle.answers.specs.declared.Answer.the-variants.{Yes, No}
-use Rattle.grid.specs.Rings.{gridRing}
 use Rattle.stripes_place.specs.Stripe.{stripeOf}
+use Rattle.tree.specs.Tree.{treeOf, packed}
+use Rattle.outline_check.specs.declared.Outline.{Outline}
+use Rattle.outline_check.specs.declared.RaycastMode.{RaycastMode}
+use Rattle.outline_check.specs.declared.RaycastMode.the-variants.{Float as FloatMode, Integer as IntegerMode}
+use Rattle.outline_check.specs.Outline.{outlineOf}
+use Rattle.outline_record.specs.Record.{boxesOf}
+use Rattle.outline_ring.specs.RingIndex.{Indexes, lent}
+use Rattle.outline_ask.specs.declared.Query.{Query}
+use Rattle.outline_ask.specs.declared.Query.the-variants.{Grid}
+use Rattle.outline_ask.specs.Query.{scaledQuery}
+use Rattle.outline_ask.specs.Inside.{insideOf}
 
--- "S is the square (0,0) (10,0) (10,10) (0,10) (0,0)"
+-- "S is the square (0,0) (10,0) (10,10) (0,10) (0,0), scale 1"
 abbrev pub S : List ℤ
 S = pos 0 ∷ pos 0 ∷ pos 10 ∷ pos 0 ∷ pos 10 ∷ pos 10 ∷ pos 0 ∷ pos 10 ∷ pos 0 ∷ pos 0 ∷ []
+
+-- "H is S with hole (2,2) (8,2) (8,8) (2,8) (2,2)"
+abbrev pub H : List ℤ
+H = S ++ (pos 2 ∷ pos 2 ∷ pos 8 ∷ pos 2 ∷ pos 8 ∷ pos 8 ∷ pos 2 ∷ pos 8 ∷ pos 2 ∷ pos 2 ∷ [])
+
+-- a ring of five points, and two of them
+abbrev pub one : List ℕ
+one = 5 ∷ []
+
+abbrev pub two : List ℕ
+two = 5 ∷ 5 ∷ []
 
 abbrev pub whole : ℤ → Float
 whole n = ofInt binary64 n
 
--- what `raycast` says of S's four sides
-abbrev pub sidesOf : ℤ → ℤ → List RaycastResult
-sidesOf x y =
-    let p : Point = record { x = whole x; y = whole y } in
-    raycastOf (segmentAt S 0) p ∷ raycastOf (segmentAt S 1) p ∷ raycastOf (segmentAt S 2) p ∷ raycastOf (segmentAt S 3) p ∷ []
+abbrev pub place : ℤ → ℤ → Point
+place x y = record { x = whole x; y = whole y }
 
--- S in Integer mode, at a place with these bits
-abbrev pub snapped : Float → Bool → Answer
-snapped x edge = gridRing S 5 (roundTo 63 x) (pos 5) edge
+-- the places (9.5, 5) and (-0.5, 5)
+abbrev pub nearEdge : Point
+nearEdge = record { x = ofBits binary64 0x4023_0000_0000_0000; y = whole (pos 5) }
+
+abbrev pub leftOf : Point
+leftOf = record { x = ofBits binary64 0xBFE0_0000_0000_0000; y = whole (pos 5) }
+
+abbrev pub scaleOne : RaycastMode → Outline
+scaleOne mode = outlineOf (whole (pos 1)) mode
+
+-- the inside question of an outline of scale 1, with the record that `make_boxes` makes of it and no index
+abbrev pub asked : RaycastMode → List ℕ → List ℤ → Point → Bool → Answer
+asked mode sizes coords p edge = insideOf (scaleOne mode) sizes coords (boxesOf sizes coords) (lent [] [] [] [] []) p edge
 
 pub record SampleSheet : Type 0 where
-  -- "S holds (5,5); (11,5) out. (0,5): out, or in with edge allowed.": one flip, none, and a side that it is on
-  pub sides-within : sidesOf (pos 5) (pos 5) ≡ Neither ∷ Inside ∷ Neither ∷ Neither ∷ []
-  pub sides-right-of : sidesOf (pos 11) (pos 5) ≡ Neither ∷ Neither ∷ Neither ∷ Neither ∷ []
-  pub sides-on : sidesOf (pos 0) (pos 5) ≡ Neither ∷ Inside ∷ Neither ∷ On ∷ []
+  -- "S holds (5,5); (11,5) out. (0,5): out, or in with edge allowed."
+  pub holds-5-5 : (edge : Bool) → asked FloatMode one S (place (pos 5) (pos 5)) edge ≡ Yes
+  pub out-11-5 : (edge : Bool) → asked FloatMode one S (place (pos 11) (pos 5)) edge ≡ No
+  pub edge-excluded : asked FloatMode one S (place (pos 0) (pos 5)) false ≡ No
+  pub edge-allowed : asked FloatMode one S (place (pos 0) (pos 5)) true ≡ Yes
+  -- "H: (5,5) out, (1,1) in, (2,5) in under both rules."
+  pub in-hole : (edge : Bool) → asked FloatMode two H (place (pos 5) (pos 5)) edge ≡ No
+  pub around-hole : (edge : Bool) → asked FloatMode two H (place (pos 1) (pos 1)) edge ≡ Yes
+  pub on-rim : (edge : Bool) → asked FloatMode two H (place (pos 2) (pos 5)) edge ≡ Yes
   -- "Integer, S: (9.5,5) snaps to the edge; (-0.5,5) snaps to x = -1, out."
-  pub snapped-edge-out : snapped (ofBits binary64 0x4023_0000_0000_0000) false ≡ No
-  pub snapped-edge-in : snapped (ofBits binary64 0x4023_0000_0000_0000) true ≡ Yes
-  pub snapped-out : snapped (ofBits binary64 0xBFE0_0000_0000_0000) true ≡ No
+  pub snaps-to-edge : scaledQuery (scaleOne IntegerMode) nearEdge ≡ Grid (pos 10) (pos 5)
+  pub snapped-excluded : asked IntegerMode one S nearEdge false ≡ No
+  pub snapped-allowed : asked IntegerMode one S nearEdge true ≡ Yes
+  pub snaps-away : scaledQuery (scaleOne IntegerMode) leftOf ≡ Grid (negsuc 0) (pos 5)
+  pub snapped-out : (edge : Bool) → asked IntegerMode one S leftOf edge ≡ No
   -- "Lists in S: y 0 gives 0,1,3; y 10 gives 1,2,3; y -1 none."
   pub list-at-0 : meeting S 5 (whole (pos 0)) ≡ 0 ∷ 1 ∷ 3 ∷ []
   pub list-at-10 : meeting S 5 (whole (pos 10)) ≡ 1 ∷ 2 ∷ 3 ∷ []
   pub list-below : meeting S 5 (whole (negsuc 0)) ≡ []
-  -- "300 is AC 02." "80 00 reads 0."
+  -- "S packs to 04 00 01 01 01 00." "300 is AC 02." "80 00 reads 0."
+  pub packs : packed (treeOf S 5) ≡ 0x04 ∷ 0x00 ∷ 0x01 ∷ 0x01 ∷ 0x01 ∷ 0x00 ∷ []
   pub three-hundred : encode 300 ≡ 0xAC ∷ 0x02 ∷ []
   pub eighty-nought : readUvarint 64 (0x80 ∷ 0x00 ∷ []) 0 ≡ Value 0 2
   -- "Stripe of 5, 10 with least 0, height 10, 32 stripes: 16, 31."

@@ -1,21 +1,19 @@
 // 01's sample sheet, the cases that are run and not proved: each line is a case and what the library says.
-use libc::STDOUT_FILENO;
+mod limits;
+mod print;
+mod trees;
+
+use print::count;
+use print::number;
+use print::refused;
+use print::text;
 use stripes_build::StripesBuilt;
 use varint::ReadUvarint;
 
-fn text(t: &[u8]) {
-    io::write_all(STDOUT_FILENO, t);
-}
-
 fn say(read: ReadUvarint) {
     match read {
-        ReadUvarint::Value(x, _) => {
-            io::print_decimal(STDOUT_FILENO, x);
-        }
-        ReadUvarint::Unread(r) => {
-            text(b"refusal ");
-            io::print_decimal(STDOUT_FILENO, r.number() as u64);
-        }
+        ReadUvarint::Value(x, _) => number(x),
+        ReadUvarint::Unread(r) => refused(r),
     }
     text(b"\n");
 }
@@ -26,9 +24,9 @@ fn nine_and(last: u8) {
     say(varint::read_uvarint(&bytes, 0, 10));
 }
 
-fn number(x: usize) {
+fn next(x: usize) {
     text(b" ");
-    io::print_decimal(STDOUT_FILENO, x as u64);
+    count(x);
 }
 
 // "S, threshold 0, stripes: 4, 32, 66, 3": segments, stripes, entries in all, fullest stripe.
@@ -38,15 +36,25 @@ fn stripes_of_s() {
     let mut list = [0u32; 66];
     match stripes_build::build_stripes(&s, 5, 0, &mut stripes, &mut list) {
         StripesBuilt::Striped(_, _, stats) => {
-            number(stats.segments);
-            number(stats.stripes);
-            number(stats.entries);
-            number(stats.fullest);
+            next(stats.segments);
+            next(stats.stripes);
+            next(stats.entries);
+            next(stats.fullest);
         }
         StripesBuilt::Unstriped => text(b" none"),
-        StripesBuilt::StripesRefused(r) => number(r.place()),
+        StripesBuilt::StripesRefused(r) => refused(r),
     }
     text(b"\n");
+}
+
+// "Ten bytes 80: ends early. Eleven: too long. Both 9."
+fn eighties() {
+    let ten = [128u8; 10];
+    text(b"ten bytes 80: ");
+    say(varint::read_uvarint(&ten, 0, 10));
+    let eleven = [128u8; 11];
+    text(b"eleven bytes 80: ");
+    say(varint::read_uvarint(&eleven, 0, 11));
 }
 
 fn main() {
@@ -56,10 +64,11 @@ fn main() {
     nine_and(127);
     text(b"nine FF then 01 reads ");
     nine_and(1);
-    let ten = [128u8; 10];
-    text(b"ten bytes 80: ");
-    say(varint::read_uvarint(&ten, 0, 10));
-    let eleven = [128u8; 11];
-    text(b"eleven bytes 80: ");
-    say(varint::read_uvarint(&eleven, 0, 11));
+    trees::rows();
+    trees::one_point();
+    trees::one_point_short();
+    limits::most_points();
+    limits::too_many_points();
+    limits::coordinates();
+    eighties();
 }

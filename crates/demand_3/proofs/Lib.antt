@@ -1,0 +1,4 @@
+pub mod Lists
+pub mod Choice
+pub mod Entries
+pub mod Demand3

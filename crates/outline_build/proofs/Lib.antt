@@ -1,0 +1,4 @@
+pub mod Roomy
+pub mod Rings
+pub mod Outcomes
+pub mod Told

@@ -1,0 +1,3 @@
+pub mod Indexes
+pub mod Statistics
+pub mod Inner

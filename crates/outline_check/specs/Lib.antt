@@ -1,0 +1,3 @@
+pub mod Outline
+pub mod Rules
+pub mod Inner

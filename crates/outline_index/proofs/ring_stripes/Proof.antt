@@ -1,0 +1,49 @@
+-- `outline_index::ring_stripes` meets its contract. Assumes nothing.
+use mathlib.Core.Path.{sym, _∙_}
+use Prim.Native.Nat.{_-_}
+use native.Mathlib.Omega.{arith}
+use borrow.Author.Needs.{needs}
+use borrow.Author.Tests.{not-true, not-false}
+use Rattle.rings.proofs.Checks.{sound-ring}
+use Rattle.outline_index.proofs.Steps.{stripes-none, stripes-put}
+use Rattle.outline_index.proofs.ring_stripes.Statement.{statement}
+use Rattle.outline_index.proofs.ring_stripes.Tie as tie
+
+sub-gives-stripes : tie.Need-sub-gives-stripes
+sub-gives-stripes c = let b = c .before .before in omega (arith, sound-ring (b .args .ring .now) (b .args .points) (b .pre .0) .enough)
+
+returns : tie.Need-returns
+returns c =
+    let b = c .before .before .before .before in
+    let a = b .args in
+    stripes-none (a .options) (a .ring .now) (a .points) (a .at) (a .stripes .now) (a .list .now) (b .pre .1 .0) (b .pre .1 .1)
+    (sym (c .before .gives-stripes .ensures) ∙ not-true _ (c .if1 .taken))
+
+returns-2 : tie.Need-returns-2
+returns-2 c =
+    let k = c .before .before .before .before in
+    let i = k .before .before .before in
+    let b = i .before .before .before .before in
+    let a = b .args in
+    stripes-put (a .options) (a .ring .now) (a .points) (a .at) (a .stripes .now) (a .list .now) (b .pre .1 .0) (b .pre .1 .1)
+    (sym (i .before .gives-stripes .ensures) ∙ not-false _ (i .if1 .left)) (b .pre .0) _ _ _ (k .build-stripes .ensures)
+
+pub ring-stripes-spec : {M : Type 1} → statement M
+ring-stripes-spec =
+    tie.close
+    (tie.spec
+    sub-gives-stripes
+    (λ c κs. search needs)
+    returns
+    (λ c. search needs)
+    (λ c. search needs)
+    (λ c. search needs)
+    (λ c. search needs)
+    (λ c. search needs)
+    (λ c. search needs)
+    (λ c. search needs)
+    (λ c. search needs)
+    (λ c κs. search needs)
+    (λ c. search needs)
+    (λ c. search needs)
+    returns-2)

@@ -1,0 +1,4 @@
+pub mod Pools
+pub mod Options
+pub mod Parts
+pub mod Inner

@@ -1,0 +1,5 @@
+pub mod Pad
+pub mod Extremes
+pub mod Among
+pub mod Boxes
+pub mod Read
