@@ -18,11 +18,11 @@ target/staticlib/libprobe.a: FORCE
 FORCE:
 
 # the library beside the Rust, on every edge and millions of random inputs
-compare: oracle-check target/staticlib/libprobe.a
+compare: oracle-check target/staticlib/libprobe.a capi-library
 	$(CARGO) run --release --offline -p compare
 
 # the same in a few seconds
-compare-short: oracle-check target/staticlib/libprobe.a
+compare-short: oracle-check target/staticlib/libprobe.a capi-library
 	$(CARGO) run --release --offline -p compare -- --short
 
 # writes the questions and the oracle's answers that the crate replay is run on

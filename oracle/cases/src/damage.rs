@@ -16,15 +16,20 @@ pub fn bytes(random: &mut Random, good: &[u8]) -> Vec<u8> {
     bytes
 }
 
-/// The same for numbers.
-pub fn numbers(random: &mut Random, good: &[u32]) -> Vec<u32> {
+/// The same for numbers of 32 or 64 bits.
+pub fn numbers<T: Copy + Into<u64> + TryFrom<u64>>(random: &mut Random, good: &[T]) -> Vec<T> {
+    let bits = 8 * std::mem::size_of::<T>();
+    let most = u64::MAX >> (64 - bits);
     let mut numbers = good.to_vec();
     for _ in 0..=usize::from(random.one_in(4)) {
-        damage(random, &mut numbers, |random, old| match random.below(4) {
-            0 => random.any_length() as u32,
-            1 => *random.pick(&[0, 1, 2, u32::MAX, u32::MAX - 1, 1 << 31]),
-            2 => old ^ (1 << random.below(32)),
-            _ => old.wrapping_add(random.between(-1, 1) as u32),
+        damage(random, &mut numbers, |random, old| {
+            let new = match random.below(4) {
+                0 => random.any_length(),
+                1 => *random.pick(&[0, 1, 2, most, most - 1, 1 << (bits - 1)]),
+                2 => old.into() ^ (1 << random.below(bits)),
+                _ => old.into().wrapping_add(random.between(-1, 1) as u64),
+            };
+            T::try_from(new & most).unwrap_or(old)
         });
     }
     numbers

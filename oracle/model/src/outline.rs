@@ -1,99 +1,170 @@
-//! Whole outlines: the rules, the record, the inside question, building. What is lent, and in which
-//! form, is docs/DECISIONS.md's.
+//! Whole outlines: the rules, the record of boxes, the inside question, building. What is lent, and in
+//! which form, is docs/DECISIONS.md's.
 
 use crate::ring::{beyond, grid_test, ring_scan, Ring};
 use crate::{pour, stripes, tree, Answer, Count, No, NO_ROOM};
 use cases::limits;
 
-/// Where each ring's coordinates stand.
-type Places = Vec<(usize, usize)>;
-
-/// Rules 1 to 6. A size below 0 is under 2 points.
-pub fn checked(coords: &[i32], sizes: &[i32], scale: f64, integer: bool) -> Result<Places, No> {
-    let lowest = |fault: &dyn Fn(usize) -> bool| (0..sizes.len()).find(|&k| fault(k)).map(|k| k as u64);
-    if sizes.is_empty() {
-        return Err((1, 0));
-    }
-    if let Some(k) = lowest(&|k| sizes[k] < limits::LEAST_POINTS as i32) {
-        return Err((1, k));
-    }
-    if sizes.len() > limits::RINGS {
-        return Err((2, limits::RINGS as u64));
-    }
-    if let Some(k) = lowest(&|k| sizes[k] > limits::MOST_POINTS as i32) {
-        return Err((2, k));
-    }
-    let mut places = Vec::new();
-    let mut end = 0;
-    for &size in sizes {
-        places.push((end, end + 2 * size as usize));
-        end += 2 * size as usize;
-    }
-    if end != coords.len() {
-        return Err((3, 0));
-    }
-    if let Some(k) = lowest(&|k| coords[places[k].0..][..2] != coords[places[k].1 - 2..places[k].1]) {
-        return Err((4, k));
-    }
-    if !(scale.is_finite() && scale > 0.0) {
-        return Err((5, 0));
-    }
-    let faulty = lowest(&|k| coords[places[k].0..places[k].1].iter().any(|&z| beyond(z)));
-    if let (true, Some(k)) = (integer, faulty) {
-        return Err((6, k));
-    }
-    Ok(places)
+/// All rings one after the other, the exterior first, and the point count of each.
+#[derive(Clone, Copy, Debug)]
+pub struct Rings<'a> {
+    pub sizes: &'a [u32],
+    pub coords: &'a [i32],
 }
 
-/// The record: the exterior's box, then each ring's point count.
-pub fn make(coords: &[i32], sizes: &[i32], scale: f64, integer: bool, record: &mut [i32]) -> Count {
-    let made = checked(coords, sizes, scale, integer).map(|places| {
-        let exterior = Ring { coords: &coords[places[0].0..places[0].1] };
-        [&exterior.bounds(), sizes].concat()
-    });
-    pour(made, record)
+impl<'a> Rings<'a> {
+    /// The lowest ring at fault.
+    fn lowest(&self, fault: impl Fn(usize) -> bool) -> Option<u64> {
+        (0..self.sizes.len()).find(|&k| fault(k)).map(|k| k as u64)
+    }
+
+    /// Ring k of rings that passed rule 3.
+    pub fn ring(&self, k: usize) -> Ring<'a> {
+        let points = |sizes: &[u32]| sizes.iter().map(|&n| n as usize).sum::<usize>();
+        let (from, to) = (points(&self.sizes[..k]), points(&self.sizes[..=k]));
+        Ring { coords: &self.coords[2 * from..2 * to] }
+    }
+
+    /// Rules 1 to 3.
+    fn sized(&self) -> Result<(), No> {
+        if self.sizes.is_empty() {
+            return Err((1, 0));
+        }
+        if let Some(k) = self.lowest(|k| (self.sizes[k] as usize) < limits::LEAST_POINTS) {
+            return Err((1, k));
+        }
+        if self.sizes.len() > limits::RINGS {
+            return Err((2, limits::RINGS as u64));
+        }
+        if let Some(k) = self.lowest(|k| self.sizes[k] as usize > limits::MOST_POINTS) {
+            return Err((2, k));
+        }
+        if 2 * self.sizes.iter().sum::<u32>() as usize != self.coords.len() {
+            return Err((3, 0));
+        }
+        Ok(())
+    }
+
+    /// Rule 4.
+    fn closed(&self) -> Result<(), No> {
+        let open = |k| self.ring(k).point(0) != self.ring(k).point(self.ring(k).points() - 1);
+        self.lowest(open).map_or(Ok(()), |k| Err((4, k)))
+    }
+
+    /// Rules 1 to 4.
+    pub fn shaped(&self) -> Result<(), No> {
+        self.sized()?;
+        self.closed()
+    }
+
+    /// Rules 5 and 6.
+    fn fit(&self, scale: f64, integer: bool) -> Result<(), No> {
+        if !(scale.is_finite() && scale > 0.0) {
+            return Err((5, 0));
+        }
+        match self.lowest(|k| integer && self.ring(k).coords.iter().any(|&z| beyond(z))) {
+            Some(k) => Err((6, k)),
+            None => Ok(()),
+        }
+    }
+
+    /// Rules 1 to 6.
+    pub fn checked(&self, scale: f64, integer: bool) -> Result<(), No> {
+        self.shaped()?;
+        self.fit(scale, integer)
+    }
+
+    /// The same, where a record of four numbers a ring comes with the coordinates.
+    fn checked_with(&self, boxes: &[i32], scale: f64, integer: bool) -> Result<(), No> {
+        self.sized()?;
+        if boxes.len() < 4 * self.sizes.len() {
+            return Err((3, 0));
+        }
+        self.closed()?;
+        self.fit(scale, integer)
+    }
+
+    fn all(&self) -> impl Iterator<Item = Ring<'a>> + '_ {
+        (0..self.sizes.len()).map(|k| self.ring(k))
+    }
 }
 
-fn sizes_of(record: &[i32]) -> &[i32] {
-    record.get(4..).unwrap_or(&[])
+/// The record: each ring's box. Says how many rings there are.
+pub fn make(rings: Rings, scale: f64, integer: bool, boxes: &mut [i32]) -> Count {
+    let made = rings.checked(scale, integer).map(|()| rings.all().flat_map(|ring| ring.bounds()).collect());
+    pour(made, boxes).map(|numbers| numbers / 4)
 }
 
-/// The indexes of all rings: a table with seven numbers a ring (kinds, then where the ring's stripes,
-/// list and bytes start and how many they are), least and height of each ring, and the content.
+/// The columns of the table.
+pub const COLUMNS: usize = 10;
+
+/// The indexes of all rings: a table with ten numbers a ring (segments; 1 below the threshold; 1 for
+/// stripes and 2 for a tree; where its stripes start and how many they are; where its list starts, how
+/// long it is, and the fullest stripe; where its bytes start and how many they are), least and height of
+/// each ring, and the content.
 #[derive(Clone, Copy)]
 pub struct Indexes<'a> {
-    pub table: &'a [u32],
+    pub table: &'a [u64],
     pub spans: &'a [f64],
     pub stripes: &'a [u32],
     pub list: &'a [u32],
     pub bytes: &'a [u8],
 }
 
-/// What of a part lies in the row.
-fn part<T>(row: &[T], at: usize, n: usize) -> &[T] {
-    let at = at.min(row.len());
-    &row[at..at.saturating_add(n).min(row.len())]
+/// A part of a row. One that doesn't lie in it whole is damage.
+fn part<T>(row: &[T], at: usize, n: usize) -> Result<&[T], No> {
+    at.checked_add(n).and_then(|to| row.get(at..to)).ok_or((9, 0))
+}
+
+/// What a table says of a ring.
+#[derive(Clone, Debug, PartialEq, Eq)]
+pub struct Told {
+    pub segments: u64,
+    pub below: bool,
+    pub stripes: bool,
+    pub tree: bool,
+    /// Segments, stripes, entries in all, fullest stripe.
+    pub four: Option<[u64; 4]>,
+}
+
+/// What is missing of a table is 0.
+fn number(table: &[u64], k: usize, column: usize) -> u64 {
+    table.get(COLUMNS * k + column).copied().unwrap_or(0)
+}
+
+pub fn told(table: &[u64], k: usize) -> Told {
+    let n = |column| number(table, k, column);
+    let stripes = n(2) % 2 == 1;
+    Told {
+        segments: n(0),
+        below: n(1) != 0,
+        stripes,
+        tree: n(2) / 2 % 2 == 1,
+        four: stripes.then(|| [n(0), n(4), n(6), n(7)]),
+    }
 }
 
 impl Indexes<'_> {
-    /// The ring test of a ring by its index, by its stripes if it has both. What is missing is 0.
-    fn test(&self, k: usize, coords: &[i32], x: f64, y: f64, edge: bool) -> Answer {
-        let points = coords.len() / 2;
-        let number = |i: usize| self.table.get(7 * k + i).copied().unwrap_or(0) as usize;
-        let span = |i: usize| self.spans.get(2 * k + i).copied().unwrap_or(0.0);
-        if number(0) % 2 == 1 {
+    /// The ring test of a ring by its index, by its stripes if it has both. A tree is searched in the box
+    /// that the record has for the ring. Places of damage count from the start of the ring's own part; a
+    /// part that the table tells of and that isn't there is told first, whatever the height.
+    fn test(&self, k: usize, ring: Ring, boxes: &[i32], x: f64, y: f64, edge: bool) -> Answer {
+        let number = |column| number(self.table, k, column) as usize;
+        if number(2) % 2 == 1 {
+            let span = part(self.spans, 2 * k, 2)?;
             let index = stripes::Index {
-                least: span(0),
-                height: span(1),
-                stripes: part(self.stripes, number(1) * 2, number(2) * 2),
-                list: part(self.list, number(3), number(4)),
+                least: span[0],
+                height: span[1],
+                stripes: part(self.stripes, number(3), number(4).saturating_mul(2))?,
+                list: part(self.list, number(5), number(6))?,
             };
-            return stripes::test(coords, points, &index, x, y, edge);
+            return stripes::test(ring.coords, ring.points(), &index, x, y, edge);
         }
-        if number(0) / 2 % 2 == 1 {
-            return tree::test(coords, points, part(self.bytes, number(5), number(6)), x, y, edge);
+        if number(2) / 2 % 2 == 1 {
+            let bytes = part(self.bytes, number(8), number(9))?;
+            return tree::test_in(ring, boxes[4 * k..][..4].try_into().expect("four"), bytes, x, y, edge);
         }
-        ring_scan(coords, points, x, y, edge)
+        ring_scan(ring.coords, ring.points(), x, y, edge)
     }
 }
 
@@ -106,29 +177,28 @@ pub struct Asked {
     pub y: f64,
 }
 
-pub fn inside(record: &[i32], coords: &[i32], asked: Asked, indexes: &Indexes) -> Answer {
+pub fn inside(rings: Rings, boxes: &[i32], asked: Asked, indexes: &Indexes) -> Answer {
     let Asked { scale, integer, edge, x, y } = asked;
-    let places = checked(coords, sizes_of(record), scale, integer)?;
+    rings.checked_with(boxes, scale, integer)?;
     let (sx, sy) = (x * scale, y * scale);
     if ![x, y, sx, sy].iter().all(|c| c.is_finite()) {
         return Ok(false);
     }
-    let ring = |k: usize| &coords[places[k].0..places[k].1];
-    let holes = 1..places.len();
+    let holes = 1..rings.sizes.len();
     if integer {
         let (px, py) = (sx.round() as i64, sy.round() as i64);
-        let [x0, y0, x1, y1] = [0, 1, 2, 3].map(|i| i64::from(record[i]));
-        let test = |k: usize, edge| grid_test(Ring { coords: ring(k) }, px, py, edge);
+        let [x0, y0, x1, y1] = [0, 1, 2, 3].map(|i| i64::from(boxes[i]));
+        let test = |k: usize, edge| grid_test(rings.ring(k), px, py, edge);
         let boxed = x0 <= px && px <= x1 && y0 <= py && py <= y1;
         return Ok(boxed && test(0, edge) && !holes.into_iter().any(|k| test(k, false)));
     }
-    let [x0, y0, x1, y1] = [0, 1, 2, 3].map(|i| f64::from(record[i]));
+    let [x0, y0, x1, y1] = [0, 1, 2, 3].map(|i| f64::from(boxes[i]));
     let boxed = x0 <= sx && sx <= x1 && y0 <= sy && sy <= y1;
-    if !boxed || !indexes.test(0, ring(0), sx, sy, edge)? {
+    if !boxed || !indexes.test(0, rings.ring(0), boxes, sx, sy, edge)? {
         return Ok(false);
     }
     for k in holes {
-        if indexes.test(k, ring(k), sx, sy, false)? {
+        if indexes.test(k, rings.ring(k), boxes, sx, sy, false)? {
             return Ok(false);
         }
     }
@@ -137,14 +207,12 @@ pub fn inside(record: &[i32], coords: &[i32], asked: Asked, indexes: &Indexes) -
 
 /// The rooms of a build.
 pub struct Rooms<'a> {
-    pub table: &'a mut [u32],
+    pub table: &'a mut [u64],
     pub spans: &'a mut [f64],
     pub stripes: &'a mut [u32],
     pub list: &'a mut [u32],
     pub bytes: &'a mut [u8],
     pub work: &'a mut [u32],
-    /// Eight numbers a ring.
-    pub stats: &'a mut [u32],
 }
 
 #[derive(Clone, Copy, Debug)]
@@ -156,12 +224,12 @@ pub struct Options {
 
 #[derive(Default)]
 struct Made {
-    table: Vec<u32>,
+    table: Vec<u64>,
     spans: Vec<f64>,
     stripes: Vec<u32>,
     list: Vec<u32>,
     bytes: Vec<u8>,
-    stats: Vec<u32>,
+    /// What the ring that calls for most calls for.
     work: usize,
 }
 
@@ -171,42 +239,40 @@ impl Made {
         let n = ring.segments();
         let reached = n as u64 >= options.threshold;
         let asked = options.stripes || options.tree;
-        let mut row = [0; 7];
+        let mut row = [0; COLUMNS];
         let mut span = [0.0; 2];
-        let mut stats = [n as u32, u32::from(asked && !reached), 0, 0, 0, 0, 0, 0];
+        row[..2].copy_from_slice(&[n as u64, u64::from(asked && !reached)]);
+        // a part that the ring has not got starts behind the others too
+        [row[3], row[5], row[8]] = [self.stripes.len(), self.list.len(), self.bytes.len()].map(|n| n as u64);
         if options.stripes && reached {
             let parts = stripes::parts(ring)?;
             let (table, list) = (parts.table(), parts.list());
-            row[0] += 1;
-            let four = [self.stripes.len() / 2, parts.stripes.len(), self.list.len(), list.len()];
-            row[1..5].copy_from_slice(&four.map(|n| n as u32));
+            let [_, stripes, entries, fullest] = parts.statistics(ring).map(u64::from);
+            row[2] += 1;
+            [row[4], row[6], row[7]] = [stripes, entries, fullest];
             span = [parts.least, parts.height];
-            stats[2] = 1;
-            stats[4..].copy_from_slice(&parts.statistics(ring));
             self.stripes.extend(table);
             self.list.extend(list);
         }
         if options.tree && reached {
             let (bytes, work) = tree::packed(ring);
-            row[0] += 2;
-            row[5..].copy_from_slice(&[self.bytes.len() as u32, bytes.len() as u32]);
-            stats[3] = 1;
+            row[2] += 2;
+            row[9] = bytes.len() as u64;
             self.bytes.extend(bytes);
             self.work = self.work.max(work);
         }
         self.table.extend(row);
         self.spans.extend(span);
-        self.stats.extend(stats);
         Some(())
     }
 }
 
 /// Builds every ring's indexes; says how many rings there are.
-pub fn build(record: &[i32], coords: &[i32], scale: f64, integer: bool, options: Options, rooms: Rooms) -> Count {
-    let places = checked(coords, sizes_of(record), scale, integer)?;
+pub fn build(rings: Rings, options: Options, rooms: Rooms) -> Count {
+    rings.shaped()?;
     let mut made = Some(Made::default());
-    for &(from, to) in &places {
-        made = made.and_then(|mut m| m.add(Ring { coords: &coords[from..to] }, options).map(|()| m));
+    for ring in rings.all() {
+        made = made.and_then(|mut m| m.add(ring, options).map(|()| m));
     }
     let fits = |m: &Made| {
         m.table.len() <= rooms.table.len()
@@ -215,12 +281,11 @@ pub fn build(record: &[i32], coords: &[i32], scale: f64, integer: bool, options:
             && m.list.len() <= rooms.list.len()
             && m.bytes.len() <= rooms.bytes.len()
             && m.work <= rooms.work.len()
-            && m.stats.len() <= rooms.stats.len()
     };
     let made = made.filter(fits);
-    let answer = if made.is_some() { Ok(places.len() as u64) } else { Err(NO_ROOM) };
+    let answer = if made.is_some() { Ok(rings.sizes.len() as u64) } else { Err(NO_ROOM) };
     let made = made.unwrap_or_default();
-    let Rooms { table, spans, stripes, list, bytes, work, stats } = rooms;
+    let Rooms { table, spans, stripes, list, bytes, work } = rooms;
     work.fill(0);
     let poured = [
         pour(Ok(made.table), table),
@@ -228,7 +293,6 @@ pub fn build(record: &[i32], coords: &[i32], scale: f64, integer: bool, options:
         pour(Ok(made.stripes), stripes),
         pour(Ok(made.list), list),
         pour(Ok(made.bytes), bytes),
-        pour(Ok(made.stats), stats),
     ];
     assert!(poured.iter().all(Result::is_ok), "what fits is poured");
     answer

@@ -89,11 +89,18 @@ pub fn packed(ring: Ring) -> (Vec<u8>, usize) {
     (bytes, nodes * 6 + ring.segments())
 }
 
-pub fn build(coords: &[i32], points: usize, bytes: &mut [u8], work: &mut [u32]) -> Count {
+/// What building says: nothing under the threshold, or how many bytes were used.
+pub type Built = Result<Option<u64>, No>;
+
+pub fn build(coords: &[i32], points: usize, threshold: u64, bytes: &mut [u8], work: &mut [u32]) -> Built {
     let ring = Ring::checked(coords, points)?;
-    let (made, numbers) = packed(ring);
     work.fill(0);
-    pour(if numbers > work.len() { Err(NO_ROOM) } else { Ok(made) }, bytes)
+    if (ring.segments() as u64) < threshold {
+        bytes.fill(0);
+        return Ok(None);
+    }
+    let (made, numbers) = packed(ring);
+    pour(if numbers > work.len() { Err(NO_ROOM) } else { Ok(made) }, bytes).map(Some)
 }
 
 struct Reading<'a> {
@@ -161,7 +168,12 @@ impl Reading<'_> {
 
 /// What a search of any bytes at a finite height lists.
 pub fn search(ring: Ring, bytes: &[u8], y: f64) -> Found {
-    let root = Rect::of(ring.bounds());
+    search_in(ring, ring.bounds(), bytes, y)
+}
+
+/// The same, in a box that may not be the ring's.
+fn search_in(ring: Ring, bounds: [i32; 4], bytes: &[u8], y: f64) -> Found {
+    let root = Rect::of(bounds);
     let mut reading = Reading { bytes, ring, y, found: Vec::new() };
     let damage = if root.meets_height(y) { reading.node(0, bytes.len(), 0, root).err() } else { None };
     Found { list: reading.found, damage }
@@ -177,8 +189,12 @@ pub fn list(coords: &[i32], points: usize, bytes: &[u8], y: f64, out: &mut [u32]
 
 pub fn test(coords: &[i32], points: usize, bytes: &[u8], x: f64, y: f64, edge: bool) -> Answer {
     let ring = Ring::checked(coords, points)?;
+    test_in(ring, ring.bounds(), bytes, x, y, edge)
+}
+
+pub fn test_in(ring: Ring, bounds: [i32; 4], bytes: &[u8], x: f64, y: f64, edge: bool) -> Answer {
     if !x.is_finite() || !y.is_finite() {
         return Ok(false);
     }
-    Ok(test_listed(ring, &search(ring, bytes, y).complete()?, x, y, edge))
+    Ok(test_listed(ring, &search_in(ring, bounds, bytes, y).complete()?, x, y, edge))
 }

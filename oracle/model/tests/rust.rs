@@ -2,7 +2,7 @@
 
 use cases::rings::{self, Corner};
 use cases::{limits, outlines, points, Random, SEED};
-use model::outline::{Asked, Indexes, Options, Rooms};
+use model::outline::{Asked, Indexes, Options, Rings, Rooms, Told};
 use model::ring::{self, Ray, Ring, Segment};
 use model::{outline, stripes, tree};
 use opened::open;
@@ -159,23 +159,25 @@ fn polygon(o: &outlines::Outline, options: PolygonBuildOptions) -> I32Polygon {
     I32Polygon::new_with_options(exterior, rings, o.scale, mode, Some(options))
 }
 
-fn numbers(s: &RingBuildStats) -> Vec<u32> {
-    let mut row = vec![s.segment_count as u32, u32::from(s.below_threshold)];
-    row.extend([s.used_y_stripes, s.used_compressed_quad].map(u32::from));
+fn told(s: &RingBuildStats) -> Told {
     let four = s.y_stripes.as_ref().map(|y| [y.segment_count, y.stripe_count, y.assigned_item_count, y.max_bucket_len]);
-    row.extend(four.unwrap_or_default().map(|n| n as u32));
-    row
+    Told {
+        segments: s.segment_count as u64,
+        below: s.below_threshold,
+        stripes: s.used_y_stripes,
+        tree: s.used_compressed_quad,
+        four: four.map(|four| four.map(|n| n as u64)),
+    }
 }
 
 /// The rooms of a build, each full of sevens.
 struct Lent {
-    table: Vec<u32>,
+    table: Vec<u64>,
     spans: Vec<f64>,
     stripes: Vec<u32>,
     list: Vec<u32>,
     bytes: Vec<u8>,
     work: Vec<u32>,
-    stats: Vec<u32>,
 }
 
 impl Lent {
@@ -194,13 +196,12 @@ impl Lent {
             }
         }
         Lent {
-            table: vec![7; 7 * told.len()],
+            table: vec![7; outline::COLUMNS * told.len()],
             spans: vec![7.0; 2 * told.len()],
             stripes: vec![7; stripes],
             list: vec![7; list],
             bytes: vec![7; bytes],
             work: vec![7; work],
-            stats: vec![7; 8 * told.len()],
         }
     }
 
@@ -212,23 +213,24 @@ impl Lent {
             list: &mut self.list,
             bytes: &mut self.bytes,
             work: &mut self.work,
-            stats: &mut self.stats,
         }
     }
 
     /// One number or byte less in a room that has any.
     fn shorten(&mut self, which: usize) -> bool {
-        let room = [&mut self.table, &mut self.stripes, &mut self.list, &mut self.work, &mut self.stats];
+        let room = [&mut self.stripes, &mut self.list, &mut self.work];
         match which {
             0 => self.bytes.pop().is_some(),
             1 => self.spans.pop().is_some(),
-            n => room.into_iter().nth(n - 2).expect("there are seven rooms").pop().is_some(),
+            2 => self.table.pop().is_some(),
+            n => room.into_iter().nth(n - 3).expect("there are six rooms").pop().is_some(),
         }
     }
 
     fn is_zero(&self) -> bool {
-        let rooms = [&self.table, &self.stripes, &self.list, &self.work, &self.stats];
+        let rooms = [&self.stripes, &self.list, &self.work];
         rooms.into_iter().flatten().all(|&n| n == 0)
+            && self.table.iter().all(|&n| n == 0)
             && self.bytes.iter().all(|&b| b == 0)
             && self.spans.iter().all(|&x| x.to_bits() == 0)
     }
@@ -240,35 +242,38 @@ fn whole_outlines() {
     let mut all = outlines::edges();
     all.extend((0..cases()).map(|_| outlines::random(&mut random)));
     for o in all {
-        let sizes: Vec<i32> = o.sizes.iter().map(|&n| n as i32).collect();
+        let sizes: Vec<u32> = o.sizes.iter().map(|&n| n as u32).collect();
+        let rings = Rings { sizes: &sizes, coords: &o.coordinates };
         let integer = o.mode == outlines::Mode::Integer;
-        let mut record = vec![7; 4 + sizes.len()];
-        assert_eq!(outline::make(&o.coordinates, &sizes, o.scale, integer, &mut record), Ok(record.len() as u64));
+        let mut boxes = vec![7; 4 * sizes.len()];
+        assert_eq!(outline::make(rings, o.scale, integer, &mut boxes), Ok(sizes.len() as u64));
 
         let (stripes, tree) = *random.pick(&[(false, false), (true, false), (false, true), (true, true)]);
         let threshold = *random.pick(&[0, 5, 64]);
         let theirs = polygon(&o, options(stripes, tree, threshold));
-        let told = theirs.index_stats();
-        let told: Vec<&RingBuildStats> = [&told.exterior].into_iter().chain(&told.holes).collect();
+        let stats = theirs.index_stats();
+        let stats: Vec<&RingBuildStats> = [&stats.exterior].into_iter().chain(&stats.holes).collect();
         let wanted = Options { stripes, tree, threshold: threshold as u64 };
         let build = |lent: &mut Lent| {
-            let answer = outline::build(&record, &o.coordinates, o.scale, integer, wanted, lent.rooms());
+            let answer = outline::build(rings, wanted, lent.rooms());
             assert!(answer.is_ok() || lent.is_zero());
             answer
         };
 
-        let mut short = Lent::of(&o, &told);
-        if short.shorten(random.below(7)) {
+        let mut short = Lent::of(&o, &stats);
+        if short.shorten(random.below(6)) {
             assert_eq!(build(&mut short), Err(model::NO_ROOM));
         }
-        let mut lent = Lent::of(&o, &told);
-        if told.iter().any(|s| s.y_stripes.as_ref().is_some_and(|y| y.stripe_count > limits::MOST_STRIPES)) {
+        let mut lent = Lent::of(&o, &stats);
+        if stats.iter().any(|s| s.y_stripes.as_ref().is_some_and(|y| y.stripe_count > limits::MOST_STRIPES)) {
             assert_eq!(build(&mut lent), Err(model::NO_ROOM));
             continue;
         }
         assert_eq!(build(&mut lent), Ok(sizes.len() as u64));
         assert!(lent.work.iter().all(|&n| n == 0));
-        assert_eq!(lent.stats, told.iter().flat_map(|s| numbers(s)).collect::<Vec<u32>>());
+        for (k, s) in stats.iter().enumerate() {
+            assert_eq!(outline::told(&lent.table, k), told(s));
+        }
         let Lent { table, spans, stripes, list, bytes, .. } = &lent;
         let indexes = Indexes { table, spans, stripes, list, bytes };
         for _ in 0..20 {
@@ -277,7 +282,7 @@ fn whole_outlines() {
                 let asked = Asked { scale: o.scale, integer, edge, x, y };
                 let p = Point { x, y };
                 let said = if edge { theirs.contains_point_allow_on_edge(p) } else { theirs.contains_point(p) };
-                assert_eq!(outline::inside(&record, &o.coordinates, asked, &indexes), Ok(said), "{o:?} {x:e} {y:e}");
+                assert_eq!(outline::inside(rings, &boxes, asked, &indexes), Ok(said), "{o:?} {x:e} {y:e}");
             }
         }
     }
@@ -293,9 +298,10 @@ fn rules() {
         all.push(outlines::damaged(&mut random, &good));
     }
     for o in all {
-        let sizes: Vec<i32> = o.sizes.iter().map(|&n| n.min(i32::MAX as usize) as i32).collect();
+        let sizes: Vec<u32> = o.sizes.iter().map(|&n| n.min(u32::MAX as usize) as u32).collect();
+        let rings = Rings { sizes: &sizes, coords: &o.coordinates };
         let integer = o.mode == outlines::Mode::Integer;
         let refusal = o.refusal().map(|(number, place)| (number, place as u64));
-        assert_eq!(outline::checked(&o.coordinates, &sizes, o.scale, integer).err(), refusal, "{o:?}");
+        assert_eq!(rings.checked(o.scale, integer).err(), refusal, "{o:?}");
     }
 }

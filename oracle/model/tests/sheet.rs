@@ -1,19 +1,23 @@
 //! The sample sheet of docs/01-scope.md, asked of the model, and a place of each kind of damage.
 
-use model::outline::{self, Asked, Indexes};
+use model::outline::{self, Asked, Indexes, Rings};
 use model::ring::{self, Ring};
 use model::{stripes, tree};
 
 const S: [i32; 10] = [0, 0, 10, 0, 10, 10, 0, 10, 0, 0];
 const HOLE: [i32; 10] = [2, 2, 8, 2, 8, 8, 2, 8, 2, 2];
 
+const NONE: Indexes = Indexes { table: &[], spans: &[], stripes: &[], list: &[], bytes: &[] };
+
 fn inside(rings: &[[i32; 10]], integer: bool, x: f64, y: f64) -> [bool; 2] {
     let coords = rings.concat();
-    let record = [&[0, 0, 10, 10][..], &vec![5; rings.len()]].concat();
-    let none = Indexes { table: &[], spans: &[], stripes: &[], list: &[], bytes: &[] };
+    let sizes = vec![5; rings.len()];
+    let rings = Rings { sizes: &sizes, coords: &coords };
+    let mut boxes = vec![7; 4 * sizes.len()];
+    assert_eq!(outline::make(rings, 1.0, integer, &mut boxes), Ok(sizes.len() as u64));
     [false, true].map(|edge| {
         let asked = Asked { scale: 1.0, integer, edge, x, y };
-        outline::inside(&record, &coords, asked, &none).expect("S and H are accepted")
+        outline::inside(rings, &boxes, asked, &NONE).expect("S and H are accepted")
     })
 }
 
@@ -27,6 +31,58 @@ fn asking() {
     assert_eq!(inside(&[S, HOLE], false, 2.0, 5.0), [true, true]);
     assert_eq!(inside(&[S], true, 9.5, 5.0), [false, true]);
     assert_eq!(inside(&[S], true, -0.5, 5.0), [false, false]);
+}
+
+/// The record is read as it stands, and a short one is refused in rule 3's turn.
+#[test]
+fn records() {
+    let asked = Asked { scale: 1.0, integer: false, edge: false, x: 5.0, y: 5.0 };
+    let ask = |coords: &[i32], boxes: &[i32]| outline::inside(Rings { sizes: &[5], coords }, boxes, asked, &NONE);
+    assert_eq!(ask(&S, &[0, 0, 10, 10]), Ok(true));
+    assert_eq!(ask(&S, &[0, 0, 10, 10, 7]), Ok(true));
+    assert_eq!(ask(&S, &[6, 0, 10, 10]), Ok(false));
+    assert_eq!(ask(&S, &[0, 0, 10]), Err((3, 0)));
+    let open = [&S[..9], &[1]].concat();
+    assert_eq!(ask(&open, &[0, 0, 10]), Err((3, 0)));
+    assert_eq!(ask(&open, &[0, 0, 10, 10]), Err((4, 0)));
+    let mut boxes = [7; 5];
+    assert_eq!(outline::make(Rings { sizes: &[5], coords: &S }, 1.0, false, &mut boxes), Ok(1));
+    assert_eq!(boxes, [0, 0, 10, 10, 0]);
+    assert_eq!(outline::make(Rings { sizes: &[5], coords: &S }, 1.0, false, &mut boxes[..3]), Err((8, 0)));
+    assert_eq!(boxes, [0, 0, 0, 10, 0]);
+    assert_eq!(outline::make(Rings { sizes: &[5], coords: &S }, 0.0, false, &mut boxes), Err((5, 0)));
+    assert_eq!(boxes, [0, 0, 0, 10, 0]);
+}
+
+/// The second ring's parts stand behind the first's, and damage in them counts from their start. With
+/// stripes and a tree the stripes are read. A hole is not read where the exterior settles the answer.
+#[test]
+fn parts_of_rings() {
+    let coords = [S, HOLE].concat();
+    let rings = Rings { sizes: &[5, 5], coords: &coords };
+    let boxes = [0, 0, 10, 10, 2, 2, 8, 8];
+    let bytes = [4, 0, 1, 1, 1, 0, 4, 0, 1, 1, 1, 2];
+    let rows = |kinds: u64, second: [u64; 2]| {
+        let mut table = [0; 20];
+        table[2] = 2;
+        table[9] = 6;
+        table[12] = kinds;
+        table[18..].copy_from_slice(&second);
+        table
+    };
+    let ask = |table: &[u64], y| {
+        let indexes = Indexes { table, bytes: &bytes, ..NONE };
+        let asked = Asked { scale: 1.0, integer: false, edge: false, x: 5.0, y };
+        outline::inside(rings, &boxes, asked, &indexes)
+    };
+    assert_eq!(ask(&rows(2, [6, 6]), 5.0), Err((9, 5)));
+    assert_eq!(ask(&rows(2, [6, 6]), 1.0), Ok(true));
+    assert_eq!(ask(&rows(2, [6, 6]), 11.0), Ok(false));
+    assert_eq!(ask(&rows(2, [0, 6]), 5.0), Ok(false));
+    assert_eq!(ask(&rows(2, [99, 6]), 5.0), Err((9, 0)));
+    // stripes are told of, and no least and height lent
+    assert_eq!(ask(&rows(3, [0, 6]), 5.0), Err((9, 0)));
+    assert_eq!(ask(&rows(0, [0, 0]), 5.0), Ok(false));
 }
 
 #[test]
@@ -60,10 +116,13 @@ fn stripes_of_s() {
 #[test]
 fn tree_of_s() {
     let (mut bytes, mut work) = ([7; 7], [7; 10]);
-    assert_eq!(tree::build(&S, 5, &mut bytes, &mut work), Ok(6));
+    assert_eq!(tree::build(&S, 5, 4, &mut bytes, &mut work), Ok(Some(6)));
     assert_eq!((bytes, work), ([4, 0, 1, 1, 1, 0, 0], [0; 10]));
-    assert_eq!(tree::build(&S, 5, &mut bytes, &mut work[..9]), Err((8, 0)));
+    assert_eq!(tree::build(&S, 5, 4, &mut bytes, &mut work[..9]), Err((8, 0)));
     assert_eq!(bytes, [0; 7]);
+    (bytes, work) = ([7; 7], [7; 10]);
+    assert_eq!(tree::build(&S, 5, 5, &mut bytes, &mut work), Ok(None));
+    assert_eq!((bytes, work), ([0; 7], [0; 10]));
     let same = [7; 28];
     let ring = Ring::checked(&same, 14).expect("it is closed");
     // to depth 64, 65 nodes

@@ -2,9 +2,11 @@
 
 mod boxes;
 mod numbers;
+mod outlines;
 mod rings;
 mod segments;
 mod stripes;
+mod trees;
 mod varints;
 
 use crate::report::Plan;
@@ -14,8 +16,16 @@ use opened::{I32Point, Point};
 /// A family's name and what runs it; true where nothing is amiss.
 pub type Run = (&'static str, fn(Plan) -> bool);
 
-pub const ALL: &[&[Run]] =
-    &[numbers::FAMILIES, varints::FAMILIES, boxes::FAMILIES, segments::FAMILIES, rings::FAMILIES, stripes::FAMILIES];
+pub const ALL: &[&[Run]] = &[
+    numbers::FAMILIES,
+    varints::FAMILIES,
+    boxes::FAMILIES,
+    segments::FAMILIES,
+    rings::FAMILIES,
+    stripes::FAMILIES,
+    trees::FAMILIES,
+    outlines::FAMILIES,
+];
 
 /// The bits; no bits for a NaN, which is one value whatever its bits.
 fn bits(x: f64) -> Option<u64> {

@@ -1,0 +1,3 @@
+pub mod Telling
+pub mod Filled
+pub mod Striped

@@ -1,0 +1,7 @@
+pub mod Told
+pub mod Lists
+pub mod Rings
+pub mod Stripes
+pub mod Trees
+pub mod Outlines
+pub mod Indexes

@@ -1,0 +1,6 @@
+pub mod OneAnswer
+pub mod Rooms
+pub mod Numbers
+pub mod Calls
+pub mod Outlines
+pub mod Interface

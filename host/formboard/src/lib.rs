@@ -1,0 +1,9 @@
+//! Which zones hold each splice of a form board: the file, the questions, the table, the drawing.
+
+pub mod ask;
+pub mod board;
+pub mod decimal;
+pub mod draw;
+pub mod options;
+pub mod read;
+pub mod table;

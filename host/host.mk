@@ -1,0 +1,78 @@
+# The host: the safe wrapper and formboard over the proved library. The root Makefile includes this file.
+# Cargo works offline, with its files in host/target, since rt empties ./target.
+
+HOST = cd host && cargo
+FORMBOARD = $(HOST) run --quiet --release --offline -p formboard --
+PICTURES = ../docs/pictures
+
+SOAK = host/target/release/soak
+# reads past a slice's ends are seen too: each slice is a heap block, and valgrind knows its ends
+VALGRIND = valgrind --quiet --error-exitcode=3 --exit-on-first-error=yes --redzone-size=256 $(SOAK) --bare --most 300
+
+.PHONY: capi-library demo host-test c-test pictures soak soak-short soak-valgrind soak-build bench bench-short
+
+# The proved library under its C names. BROTHSTITCH_DIR names a folder with another libcapi.a.
+ifdef BROTHSTITCH_DIR
+CAPI_DIR = $(BROTHSTITCH_DIR)
+# what a library written in Rust wants besides; the proved one wants nothing
+C_LIBS = -lpthread -ldl -lm
+else
+CAPI_DIR = target/staticlib
+CAPI = $(CAPI_DIR)/libcapi.a
+$(CAPI): FORCE
+	rt staticlib capi
+endif
+
+capi-library: $(CAPI)
+
+# the engine bay: its table, and its drawing in build/engine-bay.svg
+demo: $(CAPI)
+	@mkdir -p build
+	@$(FORMBOARD) --draw ../build/engine-bay.svg boards/engine-bay.board
+	@echo "drawn: build/engine-bay.svg"
+
+# the wrapper's tests, and those of formboard: errors, tables, drawings, lessons; and the C program
+host-test: $(CAPI) c-test
+	$(HOST) test --release --offline
+
+# every call once from C, compiled against the header
+c-test: $(CAPI)
+	@mkdir -p build
+	gcc -std=c99 -Wall -Wextra -Werror -pedantic -Iinclude -o build/calls host/c/calls.c -L$(CAPI_DIR) -lcapi $(C_LIBS)
+	build/calls
+
+soak-build: $(CAPI)
+	$(HOST) build --release --offline -p soak
+
+# bad input at length: six million calls in guarded slices, and 200,000 under valgrind; some minutes
+soak: soak-build
+	$(SOAK)
+	@$(MAKE) --no-print-directory soak-valgrind
+
+# the same in seconds, for `make test`; and a little of it under valgrind where that is installed
+soak-short: soak-build
+	$(SOAK) --short
+	@if command -v valgrind >/dev/null; then echo "$(VALGRIND) --calls 10000"; $(VALGRIND) --calls 10000; \
+	else echo "left out: valgrind is not installed (make soak-valgrind installs it)"; fi
+
+# 200,000 calls under valgrind
+soak-valgrind: soak-build
+	@command -v valgrind >/dev/null || { apt-get update && apt-get install -y valgrind; } >/dev/null 2>&1 || \
+	{ echo "left out: valgrind is not installed, and apt-get could not install it"; exit 1; }
+	$(VALGRIND) --calls 200000
+
+# the library beside the Rust; the tables of docs/PACE.md go to build/pace.md
+bench: $(CAPI)
+	@mkdir -p build
+	$(HOST) run --release --offline -p bench -- --page ../build/pace.md
+
+bench-short: $(CAPI)
+	$(HOST) run --release --offline -p bench -- --short
+
+# draws anew what docs/ shows; the tests compare
+pictures: $(CAPI)
+	@mkdir -p docs/pictures
+	@$(FORMBOARD) --draw $(PICTURES)/engine-bay.svg boards/engine-bay.board >boards/engine-bay.table
+	@$(FORMBOARD) --draw $(PICTURES)/lesson-border.svg boards/lesson-border.board
+	@-$(FORMBOARD) --index stripes --damage fins:list:269:9999 --rays --draw $(PICTURES)/lesson-index.svg boards/lesson-index.board
+	@$(FORMBOARD) --draw $(PICTURES)/lesson-tests.svg boards/lesson-tests.board

@@ -1,0 +1,142 @@
+/* Brothstitch: does a point lie inside an outline with cut-outs? The C interface of the proved library.
+ *
+ * Link libcapi.a, which `rt staticlib capi` writes to target/staticlib.
+ *
+ * A slice goes over as its pointer and its length, in numbers of its type and not in bytes. With length 0
+ * the pointer is not followed. Slices that a call writes must not overlap any other.
+ *
+ * Every call takes any numbers and any content, reads and writes only what it is lent, keeps nothing, and
+ * returns
+ *     0          no, or done
+ *     1          yes, or built
+ *     100 + n    refusal n
+ * It always sets *value: to a count where it says so, to the refusal's place, else to 0.
+ *
+ *     n  when                                                          place
+ *     1  no ring, or a ring under 2 points                             ring, 0 if none
+ *     2  over 64 rings, or a ring over 4,097 points                    64, or ring
+ *     3  ring sizes do not add up to the coordinates lent, two a       0
+ *        point (or the record of boxes is short)
+ *     4  a ring's first and last point differ                          ring
+ *     5  scale not finite, or not above 0                              0
+ *     6  Integer mode and a coordinate beyond 1,073,741,823            ring
+ *     7  a list at a height that is not finite                         0
+ *     8  lent room too small, or over 65,536 stripes called for        0
+ *     9  index damaged where it was read                               where
+ *
+ * Rings are numbered from 0, the exterior first; the lowest at fault is named; checks run in that order,
+ * each over all rings before the next. A call on one ring numbers it 0. Refusals 1 to 7 touch no room
+ * that was lent; 8 and 9 leave all room lent for writing zero. After success, room past the used part is zero, and work
+ * room is all zero.
+ *
+ * What comes again:
+ *     coords, points   a ring: two numbers a point, first point equal to last; and its point count
+ *     edge             0: a point on the edge is outside; else it is inside
+ *     mode             0: Float, rounded arithmetic; else Integer: the query snaps to whole numbers
+ *     threshold        rings with fewer segments (points less one) get no index
+ *     stripes, list    a stripe index: two numbers a stripe, where its part of list starts and how long
+ *                      it is; with least and height, the least y and the height of the ring
+ *     bytes            a packed tree
+ */
+#ifndef BROTHSTITCH_H
+#define BROTHSTITCH_H
+
+#include <stddef.h>
+#include <stdint.h>
+
+#ifdef __cplusplus
+extern "C" {
+#endif
+
+/* ---- Lists: the segments of a ring whose closed height range holds y. ----------------------------- */
+
+/* By looking at every segment, in rising order. The segments' numbers go to out; *value: how many. */
+uint32_t brothstitch_list_scan(const int32_t *coords, size_t coords_len, size_t points, double y,
+                               uint32_t *out, size_t out_len, uint64_t *value);
+
+/* By a stripe index, whoever wrote it; only its used part is lent. The same list, if it was built from the
+ * ring. Place of damage: 0 where there are no stripes, else a position in list, or its length. */
+uint32_t brothstitch_list_stripes(const int32_t *coords, size_t coords_len, size_t points, double least,
+                                  double height, const uint32_t *stripes, size_t stripes_len,
+                                  const uint32_t *list, size_t list_len, double y, uint32_t *out,
+                                  size_t out_len, uint64_t *value);
+
+/* By a packed tree, whoever wrote it; only its used part is lent. The same segments, in the tree's order,
+ * if it was built from the ring. Place of damage: the byte where the damaged field starts. */
+uint32_t brothstitch_list_tree(const int32_t *coords, size_t coords_len, size_t points, const uint8_t *bytes,
+                               size_t bytes_len, double y, uint32_t *out, size_t out_len, uint64_t *value);
+
+/* ---- Ring tests: is the point inside this ring? 1 yes, 0 no. A NaN or infinite point is outside. -- */
+
+/* By looking at every segment. */
+uint32_t brothstitch_ring_scan(const int32_t *coords, size_t coords_len, size_t points, double x, double y,
+                               uint32_t edge, uint64_t *value);
+
+/* By a stripe index. */
+uint32_t brothstitch_ring_stripes(const int32_t *coords, size_t coords_len, size_t points, double least,
+                                  double height, const uint32_t *stripes, size_t stripes_len,
+                                  const uint32_t *list, size_t list_len, double x, double y, uint32_t edge,
+                                  uint64_t *value);
+
+/* By a packed tree. */
+uint32_t brothstitch_ring_tree(const int32_t *coords, size_t coords_len, size_t points, const uint8_t *bytes,
+                               size_t bytes_len, double x, double y, uint32_t edge, uint64_t *value);
+
+/* In whole numbers, exactly; coordinates as in Integer mode. */
+uint32_t brothstitch_ring_grid(const int32_t *coords, size_t coords_len, size_t points, int64_t x, int64_t y,
+                               uint32_t edge, uint64_t *value);
+
+/* The turn of a ring: 1 anticlockwise (its exact area is above zero), 0 clockwise. */
+uint32_t brothstitch_turn(const int32_t *coords, size_t coords_len, size_t points, uint64_t *value);
+
+/* ---- Building an index of one ring: 1 built, 0 below the threshold. ------------------------------- */
+
+/* The stripes; *value: how many stripes. span gets least and height (two numbers); stats gets segments,
+ * stripes, entries in all, and entries in the fullest stripe (four numbers). */
+uint32_t brothstitch_build_stripes(const int32_t *coords, size_t coords_len, size_t points, size_t threshold,
+                                   uint32_t *stripes, size_t stripes_len, uint32_t *list, size_t list_len,
+                                   double *span, size_t span_len, uint64_t *stats, size_t stats_len,
+                                   uint64_t *value);
+
+/* The packed tree; *value: how many bytes. work has six numbers a node and one a segment. */
+uint32_t brothstitch_build_tree(const int32_t *coords, size_t coords_len, size_t points, size_t threshold,
+                                uint8_t *bytes, size_t bytes_len, uint32_t *work, size_t work_len,
+                                uint64_t *value);
+
+/* ---- Outlines: all rings one after the other in coords, the point count of each in sizes. --------- */
+
+/* Checks an outline, and writes the record of its boxes: four numbers a ring, least x, least y, greatest
+ * x, greatest y. 0 done; *value: how many rings. */
+uint32_t brothstitch_make(const uint32_t *sizes, size_t sizes_len, const int32_t *coords, size_t coords_len,
+                          double scale, uint32_t mode, int32_t *boxes, size_t boxes_len, uint64_t *value);
+
+/* Builds the indexes of all rings; options: bit 0 stripes, bit 1 trees. 0 done; *value: how many rings.
+ * table gets ten numbers a ring: segments; 1 if an index is asked for and the ring is below the
+ * threshold; kinds (bit 0 stripes, bit 1 tree);
+ * where its stripes start in stripes, and how many stripes it has; where its list starts in list, how long
+ * it is, and how many are in the fullest stripe; where its bytes start in bytes, and how many they are. A
+ * part that the ring has not got starts behind those of the rings before it, and has nothing in it.
+ * spans gets two numbers a ring, least and height, zeros for a ring without stripes. */
+uint32_t brothstitch_build(const uint32_t *sizes, size_t sizes_len, const int32_t *coords, size_t coords_len,
+                           uint32_t options, size_t threshold, uint64_t *table, size_t table_len,
+                           double *spans, size_t spans_len, uint32_t *stripes, size_t stripes_len,
+                           uint32_t *list, size_t list_len, uint8_t *bytes, size_t bytes_len, uint32_t *work,
+                           size_t work_len, uint64_t *value);
+
+/* Is the point, multiplied by scale, inside the outline? 1 yes, 0 no. boxes is what brothstitch_make
+ * wrote, read as it stands. table, spans, stripes, list and bytes are what brothstitch_build wrote; a number
+ * missing from table counts as 0, so with all five empty every ring is scanned. A part, or a span, that table
+ * tells of and that does not lie wholly in its slice is refusal 9, place 0. With both kinds a ring's stripes
+ * are read. Places of damage count from the start of the ring's own part. */
+uint32_t brothstitch_inside(const uint32_t *sizes, size_t sizes_len, const int32_t *coords, size_t coords_len,
+                            const int32_t *boxes, size_t boxes_len, double scale, uint32_t mode,
+                            const uint64_t *table, size_t table_len, const double *spans, size_t spans_len,
+                            const uint32_t *stripes, size_t stripes_len, const uint32_t *list,
+                            size_t list_len, const uint8_t *bytes, size_t bytes_len, double x, double y,
+                            uint32_t edge, uint64_t *value);
+
+#ifdef __cplusplus
+}
+#endif
+
+#endif
