@@ -6,8 +6,9 @@ FORMBOARD = $(HOST) run --quiet --release --offline -p formboard --
 PICTURES = ../docs/pictures
 
 SOAK = host/target/release/soak
+VALGRIND = valgrind --quiet --error-exitcode=3 --exit-on-first-error=yes --redzone-size=256 $(SOAK) --most 300
 # reads past a slice's ends are seen too: each slice is a heap block, and valgrind knows its ends
-VALGRIND = valgrind --quiet --error-exitcode=3 --exit-on-first-error=yes --redzone-size=256 $(SOAK) --bare --most 300
+BARE = $(VALGRIND) --bare
 
 .PHONY: capi-library demo host-test c-test pictures soak soak-short soak-valgrind soak-build bench bench-short
 
@@ -44,7 +45,7 @@ c-test: $(CAPI)
 soak-build: $(CAPI)
 	$(HOST) build --release --offline -p soak
 
-# bad input at length: six million calls in guarded slices, and 200,000 under valgrind; some minutes
+# bad input at length: six million calls in guarded slices, and two million under valgrind; about a quarter of an hour
 soak: soak-build
 	$(SOAK)
 	@$(MAKE) --no-print-directory soak-valgrind
@@ -52,14 +53,15 @@ soak: soak-build
 # the same in seconds, for `make test`; and a little of it under valgrind where that is installed
 soak-short: soak-build
 	$(SOAK) --short
-	@if command -v valgrind >/dev/null; then echo "$(VALGRIND) --calls 10000"; $(VALGRIND) --calls 10000; \
+	@if command -v valgrind >/dev/null; then echo "$(BARE) --calls 10000"; $(BARE) --calls 10000; \
 	else echo "left out: valgrind is not installed (make soak-valgrind installs it)"; fi
 
-# 200,000 calls under valgrind
+# a million calls in guarded slices under valgrind, and a million in bare ones
 soak-valgrind: soak-build
 	@command -v valgrind >/dev/null || { apt-get update && apt-get install -y valgrind; } >/dev/null 2>&1 || \
 	{ echo "left out: valgrind is not installed, and apt-get could not install it"; exit 1; }
-	$(VALGRIND) --calls 200000
+	$(VALGRIND) --calls 1000000
+	$(BARE) --calls 1000000
 
 # the library beside the Rust; the tables of docs/PACE.md go to build/pace.md
 bench: $(CAPI)
