@@ -191,7 +191,8 @@ fn gain_of(stripes: StripesBuilt, tree: TreeBuilt) -> Gained
     }
 }
 
-// The indexes of a ring, behind those of the rings before it.
+// The indexes of a ring, behind those of the rings before it. For the crate above, which has checked
+// the rings.
 pub fn index_ring(
     ring: &[i32],
     points: usize,
@@ -232,7 +233,8 @@ fn put_row(table: &mut [u64], at: usize, row: &[u64; 10])
     }
 }
 
-// Writes ring k's row of the table and its span, by what it got.
+// Writes ring k's row of the table and its span, by what it got. For the crate above, which has
+// measured both rooms.
 pub fn put_ring(
     table: &mut [u64],
     spans: &mut [f64],

@@ -17,6 +17,7 @@ pub struct Totals {
     pub fullest: usize,
 }
 
+// The lower end's height of segment i. For the crates above, which have checked the ring.
 pub fn low_end(ring: &[i32], i: usize) -> f64
     requires { ⌜ i * 2 + 3 < length (now ring) ⌝ }
     ensures { λ r. ⌜ r ≡ lowEnd (now (ring .entry)) i ⌝ }
@@ -24,6 +25,7 @@ pub fn low_end(ring: &[i32], i: usize) -> f64
     floats::lesser(coordinate(ring, i * 2 + 1), coordinate(ring, i * 2 + 3))
 }
 
+// The higher end's. For the same.
 pub fn high_end(ring: &[i32], i: usize) -> f64
     requires { ⌜ i * 2 + 3 < length (now ring) ⌝ }
     ensures { λ r. ⌜ r ≡ highEnd (now (ring .entry)) i ⌝ }
@@ -31,7 +33,7 @@ pub fn high_end(ring: &[i32], i: usize) -> f64
     floats::greater(coordinate(ring, i * 2 + 1), coordinate(ring, i * 2 + 3))
 }
 
-// The least height that n segments reach.
+// The least height that n segments reach. For the crates above, which have checked the ring.
 pub fn least_y(ring: &[i32], n: usize) -> f64
     requires { ⌜ n * 2 + 2 ≤ length (now ring) ⌝ }
     ensures { λ r. ⌜ r ≡ leastY (now (ring .entry)) n ⌝ }
@@ -45,7 +47,7 @@ pub fn least_y(ring: &[i32], n: usize) -> f64
     least
 }
 
-// The greatest.
+// The greatest. For the same.
 pub fn greatest_y(ring: &[i32], n: usize) -> f64
     requires { ⌜ n * 2 + 2 ≤ length (now ring) ⌝ }
     ensures { λ r. ⌜ r ≡ greatestY (now (ring .entry)) n ⌝ }
@@ -110,7 +112,8 @@ fn place_starts(stripes: &mut [u32], m: usize) -> Totals
     }
 }
 
-// Counts n segments in room that is zero, and places the starts.
+// Counts n segments in room that is zero, and places the starts. For the crate that builds, which has
+// checked the ring and measured the room.
 pub fn prepare(
     ring: &[i32],
     n: usize,

@@ -183,7 +183,8 @@ fn grow_from(
     }
 }
 
-// Grows a ring's tree from the segments in `run`; its nodes go to `rest`.
+// Grows a ring's tree from the segments in `run`; its nodes go to `rest`. For the builder, which has
+// checked the ring.
 pub fn grow_tree(ring: &[i32], bounds: Rect, run: &mut [u32], rest: &mut [u32]) -> Grown
     requires { ⌜ (0 < length (now run)) × (length (now run) ≤ 4096) × All (Readable (now ring)) (now run) ⌝ }
     ensures { λ r. ⌜ TreeGrew (grown (now (ring .entry)) maxDepth bounds (now (run .entry))) (now (rest .entry)) r (now (run .exit)) (now (rest .exit)) ⌝ }
