@@ -20,8 +20,12 @@ C_LIBS = -lpthread -ldl -lm
 else
 CAPI_DIR = target/staticlib
 CAPI = $(CAPI_DIR)/libcapi.a
-$(CAPI): FORCE
-	rt staticlib capi
+# what the library is made of: proved and linked again only where one of these has changed
+SOURCES = crates.txt $(shell find crates -name '*.rt' -o -name '*.antt')
+$(CAPI): $(SOURCES)
+	@echo "proving the library (about five minutes from nothing, less after a change); the prover's own words go to build/capi.log"
+	@host/prove-quietly capi
+	@touch $(CAPI)
 endif
 
 capi-library: $(CAPI)
@@ -78,3 +82,4 @@ pictures: $(CAPI)
 	@$(FORMBOARD) --draw $(PICTURES)/lesson-border.svg boards/lesson-border.board
 	@-$(FORMBOARD) --index stripes --damage fins:list:269:9999 --rays --draw $(PICTURES)/lesson-index.svg boards/lesson-index.board
 	@$(FORMBOARD) --draw $(PICTURES)/lesson-tests.svg boards/lesson-tests.board
+	@$(FORMBOARD) --draw $(PICTURES)/lesson-decimal.svg boards/lesson-decimal.board

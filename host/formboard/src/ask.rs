@@ -1,6 +1,7 @@
 //! Asks the library about every splice. No answer is worked out here.
 
-use crate::board::{Board, Kind, Ring, Zone};
+use crate::board::{Board, Kind, Place, Ring, Zone};
+use crate::written::Written;
 use brothstitch::{BuildOptions, Edge, Outline, Refusal};
 
 /// One number of a zone's index, overwritten before the questions: for lessons.
@@ -39,7 +40,54 @@ pub struct Said {
     pub borders: Vec<usize>,
     /// The cut-outs on whose rim it lies: zone and ring.
     pub rims: Vec<(usize, usize)>,
+    /// The rings on which it lies as it is written, and not as it is asked: zone and ring.
+    pub written: Vec<(usize, usize)>,
     pub part: Part,
+}
+
+/// A zone that the library refused as a whole, before any question.
+#[derive(Clone, Copy, Debug, PartialEq, Eq)]
+pub struct Fault {
+    pub zone: usize,
+    pub refusal: Refusal,
+}
+
+/// What the library said of a board.
+#[derive(Clone, Debug, PartialEq, Eq)]
+pub struct Answers {
+    /// One for each splice.
+    pub said: Vec<Said>,
+    /// One for each zone that was refused.
+    pub faults: Vec<Fault>,
+}
+
+impl Answers {
+    /// Whether every zone was taken and every splice got its part.
+    pub fn all_well(&self) -> bool {
+        self.faults.is_empty() && self.said.iter().all(|said| said.part != Part::None)
+    }
+}
+
+impl Fault {
+    /// The line of the file and the words that say what is wrong there.
+    pub fn words(self, board: &Board) -> (usize, String) {
+        let zone = &board.zones[self.zone];
+        let ring = match self.refusal {
+            Refusal::TooFew { ring } | Refusal::TooManyPoints { ring } | Refusal::NotClosed { ring } => ring,
+            _ => return (zone.line, format!("zone {}: {}", zone.name, self.refusal)),
+        };
+        let k = usize::try_from(ring).unwrap_or(usize::MAX);
+        let line = zone.rings.get(k).map_or(zone.line, |ring| ring.line);
+        (line, format!("zone {}, {}: {}", zone.name, ring_word(k), self.refusal))
+    }
+}
+
+/// A ring in the file's words.
+pub fn ring_word(k: usize) -> String {
+    match k {
+        0 => "its outline".to_string(),
+        k => format!("its cut-out {k}"),
+    }
 }
 
 /// A zone as the library is asked about it.
@@ -59,9 +107,18 @@ impl Asked {
     fn of(zone: &Zone, options: BuildOptions) -> Result<Asked, Refusal> {
         let mut outline = outline_of(zone, &zone.rings)?;
         outline.build(options)?;
-        let alone =
-            zone.rings.iter().map(|ring| outline_of(zone, std::slice::from_ref(ring))).collect::<Result<_, _>>()?;
+        let alone = zone.rings.iter().map(|ring| Asked::alone(zone, ring)).collect::<Result<_, _>>()?;
         Ok(Asked { edge: zone.edge, outline, alone })
+    }
+
+    /// A ring as an outline of its own. Where stripes can't be built for it, it is scanned; the answers are the same.
+    fn alone(zone: &Zone, ring: &Ring) -> Result<Outline, Refusal> {
+        let mut outline = outline_of(zone, std::slice::from_ref(ring))?;
+        let stripes = BuildOptions { stripes: true, tree: false, ..BuildOptions::default() };
+        match outline.build(stripes) {
+            Ok(()) | Err(Refusal::NoRoom) => Ok(outline),
+            Err(refusal) => Err(refusal),
+        }
     }
 
     /// The rings that a place is on: those whose answer hangs on the edge rule.
@@ -103,7 +160,7 @@ fn damage(asked: &mut Asked, damage: &Damage) -> Result<(), String> {
 }
 
 /// Asks every zone about every splice, in the board's order.
-pub fn ask(board: &Board, options: BuildOptions, damages: &[Damage]) -> Result<Vec<Said>, String> {
+pub fn ask(board: &Board, options: BuildOptions, damages: &[Damage]) -> Result<Answers, String> {
     let mut zones: Vec<Result<Asked, Refusal>> = board.zones.iter().map(|zone| Asked::of(zone, options)).collect();
     for d in damages {
         let k = board.zones.iter().position(|zone| zone.name == d.zone);
@@ -112,11 +169,22 @@ pub fn ask(board: &Board, options: BuildOptions, damages: &[Damage]) -> Result<V
             None => return Err(format!("--damage: no zone {} that has an index", d.zone)),
         }
     }
-    Ok(board.splices.iter().map(|splice| say(board, &zones, splice.place.floats())).collect())
+    let said = board.splices.iter().map(|splice| say(board, &zones, splice.place)).collect();
+    let refused =
+        |(zone, asked): (usize, &Result<Asked, Refusal>)| asked.as_ref().err().map(|&refusal| Fault { zone, refusal });
+    Ok(Answers { said, faults: zones.iter().enumerate().filter_map(refused).collect() })
 }
 
-fn say(board: &Board, zones: &[Result<Asked, Refusal>], (x, y): (f64, f64)) -> Said {
-    let mut said = Said { held: Ok(Vec::new()), borders: Vec::new(), rims: Vec::new(), part: Part::None };
+/// The rings of a zone on which a place lies as it is written.
+fn written(zone: &Zone, place: Place) -> impl Iterator<Item = usize> + '_ {
+    let exact = Written::of(place, zone.scale);
+    (0..zone.rings.len()).filter(move |&k| exact.is_some_and(|exact| exact.on(&zone.rings[k])))
+}
+
+fn say(board: &Board, zones: &[Result<Asked, Refusal>], place: Place) -> Said {
+    let (x, y) = place.floats();
+    let mut said =
+        Said { held: Ok(Vec::new()), borders: Vec::new(), rims: Vec::new(), written: Vec::new(), part: Part::None };
     for (z, zone) in zones.iter().enumerate() {
         let answer = zone.as_ref().map_err(|&refusal| refusal).and_then(|asked| {
             let on = asked.on(x, y)?;
@@ -126,6 +194,7 @@ fn say(board: &Board, zones: &[Result<Asked, Refusal>], (x, y): (f64, f64)) -> S
             (Ok((holds, on)), held) => {
                 said.borders.extend(on.iter().filter(|&&k| k == 0).map(|_| z));
                 said.rims.extend(on.iter().filter(|&&k| k > 0).map(|&k| (z, k)));
+                said.written.extend(written(&board.zones[z], place).filter(|k| !on.contains(k)).map(|k| (z, k)));
                 if let (Ok(all), true) = (held, holds) {
                     all.push(z);
                 }

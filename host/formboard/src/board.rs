@@ -59,12 +59,16 @@ impl fmt::Display for Place {
 /// A ring of a zone, in millimetres for the drawing, and as the numbers that the library is lent.
 #[derive(Clone, Debug, Default, PartialEq)]
 pub struct Ring {
+    /// The line of the file that begins it.
+    pub line: usize,
     pub places: Vec<Place>,
     pub stored: Vec<(i32, i32)>,
 }
 
 #[derive(Clone, Debug, PartialEq)]
 pub struct Zone {
+    /// The line of the file that begins it.
+    pub line: usize,
     pub name: String,
     pub kind: Kind,
     pub edge: Edge,

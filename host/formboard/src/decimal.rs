@@ -46,6 +46,25 @@ impl Decimal {
         Decimal { digits: self.digits * other.digits, places: self.places + other.places }
     }
 
+    /// Two decimals times the scale as whole numbers over one power of ten, as small as it can be; none where the
+    /// numbers would be too long.
+    pub fn scaled_pair(x: Decimal, y: Decimal, scale: Decimal) -> Option<([i128; 2], i128)> {
+        let pair = [x.times(scale).short(), y.times(scale).short()];
+        let places = pair[0].places.max(pair[1].places);
+        let unit = 10_i128.checked_pow(places)?;
+        let whole = |d: Decimal| d.digits.checked_mul(10_i128.checked_pow(places - d.places)?);
+        Some(([whole(pair[0])?, whole(pair[1])?], unit))
+    }
+
+    /// Without zeros at its end.
+    fn short(mut self) -> Decimal {
+        while self.places > 0 && self.digits % 10 == 0 {
+            self.digits /= 10;
+            self.places -= 1;
+        }
+        self
+    }
+
     /// This times the scale as a stored number, with nothing rounded.
     pub fn stored(self, scale: Decimal) -> Result<i32, NotStored> {
         let product = self.times(scale);

@@ -4,6 +4,8 @@ pub mod ask;
 pub mod board;
 pub mod decimal;
 pub mod draw;
+pub mod machine;
 pub mod options;
 pub mod read;
 pub mod table;
+pub mod written;

@@ -3,6 +3,7 @@
 use crate::board::{Board, Kind, Place, Ring, Splice, Zone};
 use crate::decimal::{Decimal, NotStored, MOST_DIGITS};
 use brothstitch::{Edge, Mode};
+use std::collections::HashMap;
 use std::error::Error;
 use std::fmt;
 
@@ -137,8 +138,10 @@ impl Open {
 #[derive(Default)]
 struct Reader {
     title: Option<String>,
-    zones: Vec<(usize, Zone)>,
-    splices: Vec<(usize, Splice)>,
+    zones: Vec<Zone>,
+    splices: Vec<Splice>,
+    /// The names of splices, and the lines where they stand.
+    used: HashMap<String, usize>,
     open: Option<Open>,
 }
 
@@ -179,8 +182,9 @@ impl Reader {
         self.close(line.number, &quoted(line.words[0]))?;
         let (name, kind) = line.two("a zone's name", "its kind (wet, dry or hot)")?;
         let name = line.name(name)?;
-        if let Some((used, _)) = self.zones.iter().find(|(_, zone)| zone.name == name) {
-            return line.error("a zone's name that is not used yet", format!("{}, used in line {used}", quoted(&name)));
+        if let Some(zone) = self.zones.iter().find(|zone| zone.name == name) {
+            let found = format!("{}, used in line {}", quoted(&name), zone.line);
+            return line.error("a zone's name that is not used yet", found);
         }
         let Some(kind) = Kind::ALL.into_iter().find(|k| k.word() == kind) else {
             return line.error("a zone's kind: wet, dry or hot", quoted(kind));
@@ -234,7 +238,7 @@ impl Reader {
             (false, true) => {
                 return line.error(format!("the outline of zone {} before its cut-outs", open.name), quoted(keyword));
             }
-            _ => open.rings.push(Ring::default()),
+            _ => open.rings.push(Ring { line: line.number, ..Ring::default() }),
         }
         if line.words.len() < 2 {
             return line.error("the ring's places X,Y", "the end of the line");
@@ -261,12 +265,12 @@ impl Reader {
         self.close(line.number, &quoted(line.words[0]))?;
         let (name, place) = line.two("a splice's name", "its place X,Y")?;
         let name = line.name(name)?;
-        if let Some((used, _)) = self.splices.iter().find(|(_, splice)| splice.name == name) {
+        if let Some(used) = self.used.insert(name.clone(), line.number) {
             return line
                 .error("a splice's name that is not used yet", format!("{}, used in line {used}", quoted(&name)));
         }
         let place = line.place(place)?;
-        self.splices.push((line.number, Splice { name, place }));
+        self.splices.push(Splice { name, place });
         Ok(())
     }
 
@@ -284,13 +288,17 @@ impl Reader {
             let expected = format!("the outline of zone {name}");
             return Err(ReadError { line, expected, found: found.to_string() });
         }
-        self.zones.push((begun, Zone { name, kind, edge, mode, scale, rings }));
+        self.zones.push(Zone { line: begun, name, kind, edge, mode, scale, rings });
         Ok(())
     }
 }
 
+/// What some editors put before a text in UTF-8.
+const BYTE_ORDER_MARK: &[u8] = b"\xEF\xBB\xBF";
+
 /// Reads a board from a file's bytes.
 pub fn read(bytes: &[u8]) -> Read<Board> {
+    let bytes = bytes.strip_prefix(BYTE_ORDER_MARK).unwrap_or(bytes);
     let mut reader = Reader::default();
     let mut last = 0;
     for (k, bytes) in bytes.split(|&b| b == b'\n').enumerate() {
@@ -309,7 +317,7 @@ pub fn read(bytes: &[u8]) -> Read<Board> {
     }
     Ok(Board {
         title: reader.title.unwrap_or_else(|| "Board".to_string()),
-        zones: reader.zones.into_iter().map(|(_, zone)| zone).collect(),
-        splices: reader.splices.into_iter().map(|(_, splice)| splice).collect(),
+        zones: reader.zones,
+        splices: reader.splices,
     })
 }

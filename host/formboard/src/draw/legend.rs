@@ -1,8 +1,8 @@
 //! The legend, in a column beside the board.
 
 use super::mark::Mark;
-use super::page::{n, At, HEIGHT, LEGEND};
-use super::{colours, dashes, text, GREY, INK};
+use super::page::{n, At, HEIGHT, LEGEND, WIDTH};
+use super::{colours, dashes, fitting, text, GREY, INK};
 use crate::ask::{Part, Said};
 use crate::board::{mode_word, Board, Zone};
 use crate::table::count;
@@ -27,12 +27,13 @@ impl Column<'_> {
     fn words(&mut self, first: &str, second: &str, weight: &str) {
         let x = LEGEND + 13.0;
         let middle = self.y + 3.0;
+        let most = WIDTH - x - 3.0;
         if second.is_empty() {
-            text(self.svg, At { x, y: middle + 1.15 }, 3.3, INK, weight, first);
+            text(self.svg, At { x, y: middle + 1.15 }, fitting(first, 3.3, most), INK, weight, first);
             return;
         }
-        text(self.svg, At { x, y: middle - 0.5 }, 3.3, INK, weight, first);
-        text(self.svg, At { x, y: middle + 3.1 }, 2.7, GREY, "", second);
+        text(self.svg, At { x, y: middle - 0.5 }, fitting(first, 3.3, most), INK, weight, first);
+        text(self.svg, At { x, y: middle + 3.1 }, fitting(second, 2.7, most), GREY, "", second);
     }
 
     fn zone(&mut self, zone: &Zone) {
@@ -43,6 +44,13 @@ impl Column<'_> {
             "<rect x=\"{}\" y=\"{}\" width=\"9\" height=\"5\" fill=\"{fill}\" stroke=\"{line}\" stroke-width=\"0.75\"{dashes}/>",
             n(LEGEND + 0.5),
             n(self.y + 0.5)
+        );
+        let _ = writeln!(
+            self.svg,
+            "<rect x=\"{}\" y=\"{}\" width=\"9\" height=\"5\" fill=\"url(#{})\"/>",
+            n(LEGEND + 0.5),
+            n(self.y + 0.5),
+            zone.kind.word()
         );
         let cuts = match zone.rings.len() - 1 {
             0 => String::new(),
@@ -67,7 +75,7 @@ impl Column<'_> {
     }
 
     fn mark(&mut self, mark: Mark, first: &str, second: &str) {
-        let deep = if mark.border || mark.rim { 10.4 } else { 6.2 };
+        let deep = if mark.border || mark.rim || mark.written { 10.4 } else { 6.2 };
         let middle = self.y + 3.0;
         mark.draw(self.svg, At { x: LEGEND + 5.0, y: middle + if second.is_empty() { 0.0 } else { 0.6 } }, 1.0);
         self.words(first, second, "");
@@ -93,7 +101,8 @@ pub fn legend(svg: &mut String, board: &Board, said: &[Said], rays: bool) {
     let mut column = Column { svg, y: 22.6 };
     column.head("ZONES");
     // what stands below the zones takes so much
-    let below = if rays { 96.0 } else { 90.0 };
+    let written = count(said, |said| !said.written.is_empty());
+    let below = 90.0 + if rays { 6.0 } else { 0.0 } + if written > 0 { 10.4 } else { 0.0 };
     let fits = ((HEIGHT - 14.0 - below - column.y) / 8.6) as usize;
     let shown = if board.zones.len() <= fits { fits } else { fits - 1 };
     board.zones.iter().take(shown).for_each(|zone| column.zone(zone));
@@ -111,16 +120,20 @@ pub fn legend(svg: &mut String, board: &Board, said: &[Said], rays: bool) {
             Part::None => "refused, no part",
         };
         let many = count(said, |said| said.part == part);
-        column.mark(Mark { part, border: false, rim: false }, &format!("{word} ({many})"), "");
+        column.mark(Mark { part, border: false, rim: false, written: false }, &format!("{word} ({many})"), "");
     }
     column.y += 2.0;
     let part = Part::Unsealed;
     let borders = count(said, |said| !said.borders.is_empty());
     let rims = count(said, |said| !said.rims.is_empty());
-    let border = Mark { part, border: true, rim: false };
+    let border = Mark { part, border: true, rim: false, written: false };
     column.mark(border, &format!("on a border ({borders})"), "the edge rule decides");
-    let rim = Mark { part, border: false, rim: true };
+    let rim = Mark { part, border: false, rim: true, written: false };
     column.mark(rim, &format!("on a cut-out's rim ({rims})"), "never puts a splice out");
+    if written > 0 {
+        let mark = Mark { part, border: false, rim: false, written: true };
+        column.mark(mark, &format!("on a line as written ({written})"), "and not as it is asked");
+    }
     if rays {
         column.ray();
     }

@@ -13,18 +13,25 @@ pub struct Mark {
     pub part: Part,
     pub border: bool,
     pub rim: bool,
+    /// On a line as it is written, and not as it is asked.
+    pub written: bool,
 }
 
 impl Mark {
     pub fn of(said: &Said) -> Mark {
-        Mark { part: said.part, border: !said.borders.is_empty(), rim: !said.rims.is_empty() }
+        Mark {
+            part: said.part,
+            border: !said.borders.is_empty(),
+            rim: !said.rims.is_empty(),
+            written: !said.written.is_empty(),
+        }
     }
 
     /// How far it reaches from its middle, in full size.
     pub fn reach(self) -> f64 {
         if self.border {
             4.9
-        } else if self.rim {
+        } else if self.rim || self.written {
             3.6
         } else {
             1.9
@@ -42,6 +49,12 @@ impl Mark {
         } else if self.rim {
             *svg += "<circle r=\"3.1\" stroke=\"#fff\" stroke-width=\"1.6\"/>";
             let style = format!("stroke=\"{STRIKING}\" stroke-width=\"0.8\" stroke-dasharray=\"1.6 0.835\"");
+            let _ = write!(svg, "<circle r=\"3.1\" {style}/>");
+        } else if self.written {
+            *svg += "<circle r=\"3.1\" stroke=\"#fff\" stroke-width=\"1.6\"/>";
+            let style = format!(
+                "stroke=\"{STRIKING}\" stroke-width=\"1\" stroke-dasharray=\"0 1.95\" stroke-linecap=\"round\""
+            );
             let _ = write!(svg, "<circle r=\"3.1\" {style}/>");
         }
         *svg += &match self.part {

@@ -102,6 +102,11 @@ impl Name {
         Box::around(self.at, self.reach, self.reach)
     }
 
+    /// The places next to the mark.
+    pub fn near_boxes(&self) -> impl Iterator<Item = Box> + '_ {
+        self.boxes().take(WAYS.len()).map(|(_, area)| area)
+    }
+
     fn boxes(&self) -> impl Iterator<Item = (f64, Box)> + '_ {
         let size = self.size * SPLICE_SIZE;
         let (half_width, half_height) = (text_width(&self.text, size) / 2.0, size / 2.0);

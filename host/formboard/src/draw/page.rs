@@ -105,10 +105,10 @@ impl View {
         [(self.middle.0 - w, self.middle.0 + w), (self.middle.1 - h, self.middle.1 + h)]
     }
 
-    /// A step between grid lines that reads well: 1, 2 or 5 with zeros, at least 15 mm apart on paper. The
+    /// A step between grid lines that reads well: 1, 2 or 5 with zeros, at least so far apart on paper. The
     /// second number says how many decimals it has.
-    pub fn step(&self) -> (f64, usize) {
-        let least = 15.0 / self.factor;
+    pub fn step(&self, apart: f64) -> (f64, usize) {
+        let least = apart / self.factor;
         let mut unit = 1.0;
         let mut decimals = 0;
         while unit > least && decimals < 9 {
@@ -149,7 +149,8 @@ pub fn escaped(text: &str) -> String {
 pub fn text_width(text: &str, size: f64) -> f64 {
     let wide = |c: char| match c {
         'i' | 'j' | 'l' | 'I' | '.' | ',' | '-' | ' ' | 't' | 'f' | 'r' | '/' => 0.45,
-        'm' | 'w' | 'M' | 'W' => 1.0,
+        'W' => 1.13,
+        'm' | 'w' | 'M' => 1.05,
         c if c.is_lowercase() || c.is_ascii_digit() => 0.68,
         _ => 0.78,
     };

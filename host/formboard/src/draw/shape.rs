@@ -8,6 +8,8 @@ pub struct Shape {
     pub rings: Vec<Vec<At>>,
     pub bounds: Box,
     pub area: f64,
+    /// The outline's places are all on one line.
+    pub flat: bool,
 }
 
 impl Shape {
@@ -17,24 +19,22 @@ impl Shape {
         let dot = |at: &At| Box::around(*at, 0.0, 0.0);
         let bounds = rings.iter().flatten().map(dot).reduce(Box::with).expect("a zone has places");
         let doubled: f64 = rings[0].windows(2).map(|w| w[0].x * w[1].y - w[1].x * w[0].y).sum();
-        Shape { rings, bounds, area: doubled.abs() / 2.0 }
+        Shape { rings, bounds, area: doubled.abs() / 2.0, flat: flat(&zone.rings[0].stored) }
     }
 
     pub fn lines(&self) -> impl Iterator<Item = (At, At)> + '_ {
         self.rings.iter().flat_map(|ring| ring.windows(2).map(|pair| (pair[0], pair[1])))
     }
 
-    /// Whether a place is coloured, as `fill-rule: evenodd` colours.
+    /// Whether a place is coloured: in the outline and in none of the cut-outs.
     pub fn coloured(&self, at: At) -> bool {
-        self.crossings(at).count() % 2 == 1
+        let inside = |ring: &Vec<At>| crossings(ring, at).count() % 2 == 1;
+        inside(&self.rings[0]) && !self.rings[1..].iter().any(inside)
     }
 
     /// Where the line from a place to the right crosses the rings.
     pub fn crossings(&self, at: At) -> impl Iterator<Item = At> + '_ {
-        self.lines().filter(move |(a, b)| (a.y > at.y) != (b.y > at.y)).filter_map(move |(a, b)| {
-            let x = a.x + (at.y - a.y) / (b.y - a.y) * (b.x - a.x);
-            (x > at.x).then_some(At { x, y: at.y })
-        })
+        self.rings.iter().flat_map(move |ring| crossings(ring, at))
     }
 
     /// How far a box is from the nearest line; 0 where a line runs through it.
@@ -46,6 +46,22 @@ impl Shape {
     pub fn through(&self, area: Box) -> usize {
         self.lines().filter(|&line| meets(line, area)).count()
     }
+}
+
+/// Where the line from a place to the right crosses a ring.
+fn crossings(ring: &[At], at: At) -> impl Iterator<Item = At> + '_ {
+    let lines = ring.windows(2).map(|pair| (pair[0], pair[1]));
+    lines.filter(move |(a, b)| (a.y > at.y) != (b.y > at.y)).filter_map(move |(a, b)| {
+        let x = a.x + (at.y - a.y) / (b.y - a.y) * (b.x - a.x);
+        (x > at.x).then_some(At { x, y: at.y })
+    })
+}
+
+/// Whether all points are on one line, in whole numbers.
+fn flat(points: &[(i32, i32)]) -> bool {
+    let from = |p: (i32, i32)| (i128::from(p.0) - i128::from(points[0].0), i128::from(p.1) - i128::from(points[0].1));
+    let farthest = points.iter().map(|&p| from(p)).max_by_key(|&(x, y)| x * x + y * y);
+    farthest.is_none_or(|(x, y)| points.iter().map(|&p| from(p)).all(|(u, v)| x * v == y * u))
 }
 
 /// Whether a line has a place in a box: what of the line is left between each pair of sides.

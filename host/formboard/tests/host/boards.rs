@@ -5,11 +5,12 @@ use std::env;
 use std::fs;
 
 /// A board with the options that its picture is drawn with, and whether a splice is refused.
-const PICTURES: [(&str, &[&str], i32); 4] = [
+const PICTURES: [(&str, &[&str], i32); 5] = [
     ("engine-bay", &[], 0),
     ("lesson-border", &[], 0),
     ("lesson-index", &["--index", "stripes", "--damage", "fins:list:269:9999", "--rays"], 1),
     ("lesson-tests", &[], 0),
+    ("lesson-decimal", &[], 0),
 ];
 
 fn table(board: &str, options: &[&str], status: i32) -> String {
@@ -70,6 +71,7 @@ fn lessons_show_what_the_host_says() {
     assert!(ran.status.success());
     shows("docs/lessons/2-the-index.md", text(&ran.stdout));
     shows("docs/lessons/3-the-two-tests.md", rows(&table("lesson-tests", &[], 0)));
+    shows("docs/lessons/4-the-decimal.md", rows(&table("lesson-decimal", &[], 0)));
 }
 
 #[test]
@@ -79,6 +81,7 @@ fn pages_link_to_what_is_there() {
         "docs/lessons/1-the-border.md",
         "docs/lessons/2-the-index.md",
         "docs/lessons/3-the-two-tests.md",
+        "docs/lessons/4-the-decimal.md",
     ] {
         let folder = path(page).parent().expect("a page is in a folder").to_path_buf();
         for link in file(page).split("](").skip(1) {

@@ -99,6 +99,14 @@ fn rings_that_cannot_be_read() {
     );
 }
 
+/// What some editors put before a text is no part of it.
+#[test]
+fn a_byte_order_mark_is_taken() {
+    let plain = format!("{ZONE}outline 0,0 4,0 4,4 0,0\n");
+    assert_eq!(read(format!("\u{feff}{plain}").as_bytes()), read(plain.as_bytes()));
+    assert_eq!(problem("\u{feff}\u{feff}".as_bytes()).split(',').next(), Some("line 1: expected board"));
+}
+
 #[test]
 fn what_a_file_may_look_like() {
     let tidy = format!("board A b\n{ZONE}outline 0,0 4,0 4,4 0,0\ncut-out 1,1 2,1 1,1\nsplice s 3,1\n");
@@ -116,7 +124,7 @@ fn what_a_file_may_look_like() {
 fn refused(file: &str, options: BuildOptions, damages: &[Damage]) -> String {
     let board = read(file.as_bytes()).unwrap_or_else(|error| panic!("{error}"));
     let said = ask(&board, options, damages).expect("the damage can be done");
-    assert_eq!(said[0].part, Part::None);
+    assert_eq!(said.said[0].part, Part::None);
     let text = table(&board, &said);
     let row = text.lines().find(|line| line.starts_with("s ")).expect("the splice has a row");
     let (start, note) = row.split_once("refused  ").expect("the row says refused");
@@ -207,7 +215,7 @@ fn complaint(arguments: &[&str]) -> (Option<i32>, String) {
 
 #[test]
 fn command_lines() {
-    let cases: [(&[&str], &str); 9] = [
+    let cases: [(&[&str], &str); 16] = [
         (&[], "expected a board file; --help tells more"),
         (&["--drow", "x"], "expected an option or a file, found \"--drow\""),
         (&["a.board", "b.board"], "expected one file, found \"b.board\" as well"),
@@ -217,6 +225,22 @@ fn command_lines() {
         (&["--damage", "z:list:1"], "--damage: expected ZONE:ROOM:PLACE:NUMBER, found \"z:list:1\""),
         (&["none.board"], "none.board: cannot be read: No such file or directory (os error 2)"),
         (&["--damage", "y:list:0:0", "engine-bay.board"], "--damage: no zone y that has an index"),
+        (&["--format", "xml"], "--format: expected table, csv or json, found \"xml\""),
+        (&["--format=", "x.board"], "--format: expected table, csv or json, found \"\""),
+        (&["--rays=yes", "x.board"], "expected an option or a file, found \"--rays=yes\""),
+        (&["--", "--version"], "--version: cannot be read: No such file or directory (os error 2)"),
+        (
+            &["--draw", "engine-bay.board", "engine-bay.board"],
+            "--draw: engine-bay.board is the board itself, which is not written over",
+        ),
+        (
+            &["--draw=./engine-bay.board", "engine-bay.board"],
+            "--draw: ./engine-bay.board is the board itself, which is not written over",
+        ),
+        (
+            &["--draw", "no/such/folder.svg", "--format=csv", "none.board"],
+            "none.board: cannot be read: No such file or directory (os error 2)",
+        ),
     ];
     for (arguments, said) in cases {
         assert_eq!(complaint(arguments), (Some(2), format!("formboard: {said}")));
@@ -238,8 +262,19 @@ fn a_bad_file_ends_with_its_line_number() {
 fn help_tells_all_options() {
     let ran = formboard(&["--help"]);
     assert!(ran.status.success());
-    for word in ["--draw", "--index", "--from", "--rays", "--damage", "exit status", "cut-out", "sealed", "line number"]
-    {
+    for word in [
+        "--format",
+        "--draw",
+        "--index",
+        "--from",
+        "--rays",
+        "--damage",
+        "--version",
+        "exit status",
+        "cut-out",
+        "sealed",
+        "line number",
+    ] {
         assert!(text(&ran.stdout).contains(word), "{word}");
     }
 }
@@ -302,7 +337,7 @@ fn spoilt_boards() {
                 let said = ask(&board, BuildOptions::default(), &[]).expect("nothing is damaged");
                 assert!(table(&board, &said).lines().count() >= board.splices.len() + 6);
                 if fine % 8 == 0 {
-                    assert!(draw(&board, &said, true).ends_with("</svg>\n"));
+                    assert!(draw(&board, &said.said, true).ends_with("</svg>\n"));
                 }
                 fine += 1;
             }
