@@ -10,7 +10,7 @@ VALGRIND = valgrind --quiet --error-exitcode=3 --exit-on-first-error=yes --redzo
 # reads past a slice's ends are seen too: each slice is a heap block, and valgrind knows its ends
 BARE = $(VALGRIND) --bare
 
-.PHONY: capi-library demo host-test c-test pictures soak soak-short soak-valgrind soak-build bench bench-short
+.PHONY: capi-library demo host-test c-test install pictures soak soak-short soak-valgrind soak-build bench bench-short
 
 # The proved library under its C names. BROTHSTITCH_DIR names a folder with another libcapi.a.
 ifdef BROTHSTITCH_DIR
@@ -40,11 +40,26 @@ demo: $(CAPI)
 host-test: $(CAPI) c-test
 	$(HOST) test --release --offline
 
-# every call once from C, compiled against the header
+# every call once from C, compiled against the header; and the header's own quick start, against what was installed
+GCC = gcc -std=c99 -Wall -Wextra -Werror -pedantic
 c-test: $(CAPI)
 	@mkdir -p build
-	gcc -std=c99 -Wall -Wextra -Werror -pedantic -Iinclude -o build/calls host/c/calls.c -L$(CAPI_DIR) -lcapi $(C_LIBS)
+	$(GCC) -Iinclude -o build/calls host/c/calls.c -L$(CAPI_DIR) -lcapi $(C_LIBS)
 	build/calls
+	@rm -rf build/installed
+	@$(MAKE) --no-print-directory install PREFIX=$(CURDIR)/build/installed >/dev/null
+	@sed -n '/Quick start/,/What a host owes/{//d; s/^ [*] \{0,5\}//p;}' include/brothstitch.h >build/quick-start.c
+	$(GCC) -Ibuild/installed/include -o build/quick-start build/quick-start.c -Lbuild/installed/lib -lbrothstitch $(C_LIBS)
+	test "$$(build/quick-start)" = inside
+
+# the library as C programs link it
+PREFIX = /usr/local
+VERSION = $(shell sed -n 's/^.define BROTHSTITCH_VERSION "\(.*\)"/\1/p' include/brothstitch.h)
+install: $(CAPI)
+	mkdir -p $(DESTDIR)$(PREFIX)/lib/pkgconfig $(DESTDIR)$(PREFIX)/include
+	cp $(CAPI_DIR)/libcapi.a $(DESTDIR)$(PREFIX)/lib/libbrothstitch.a
+	cp include/brothstitch.h $(DESTDIR)$(PREFIX)/include/brothstitch.h
+	sed -e 's|@PREFIX@|$(PREFIX)|' -e 's|@VERSION@|$(VERSION)|' host/c/brothstitch.pc.in >$(DESTDIR)$(PREFIX)/lib/pkgconfig/brothstitch.pc
 
 soak-build: $(CAPI)
 	$(HOST) build --release --offline -p soak

@@ -1,6 +1,30 @@
 /* Brothstitch: does a point lie inside an outline with cut-outs? The C interface of the proved library.
  *
- * Link libcapi.a, which `rt staticlib capi` writes to target/staticlib.
+ * Link libbrothstitch.a; `make install PREFIX=..` puts it, this header and a pkg-config file in place.
+ *
+ * Quick start (a test compiles and runs it):
+ *
+ *     #include <brothstitch.h>
+ *     #include <stdio.h>
+ *
+ *     int main(void) {
+ *         const uint32_t sizes[] = {5};
+ *         const int32_t coords[] = {0, 0, 10, 0, 10, 10, 0, 10, 0, 0};
+ *         int32_t boxes[4];
+ *         uint64_t value;
+ *         uint32_t made = brothstitch_make(sizes, 1, coords, 10, 1.0, BROTHSTITCH_MODE_FLOAT, boxes, 4, &value);
+ *         if (made != BROTHSTITCH_DONE) {
+ *             return printf("refusal %u, place %u\n", made - BROTHSTITCH_REFUSED, (unsigned)value);
+ *         }
+ *         uint32_t said = brothstitch_inside(sizes, 1, coords, 10, boxes, 4, 1.0, BROTHSTITCH_MODE_FLOAT, NULL, 0, NULL,
+ *                                            0, NULL, 0, NULL, 0, NULL, 0, 5.0, 5.0, BROTHSTITCH_EDGE_EXCLUDED, &value);
+ *         return printf("%s\n", said == BROTHSTITCH_YES ? "inside" : "outside") < 0;
+ *     }
+ *
+ * What a host owes: the default floating-point environment of IEEE 754 (round to nearest, subnormal numbers kept). A program
+ * that is linked with -ffast-math or -Ofast may have subnormal numbers flushed to zero from its start on, and then answers in
+ * Float mode can be wrong. value is never NULL; each call writes it. A call needs at most about 90 KB of stack (measured: 83 KB for a
+ * tree's build, 36 KB for its search).
  *
  * A slice goes over as its pointer and its length, in numbers of its type and not in bytes. With length 0
  * the pointer is not followed. Slices that a call writes must not overlap any other.
@@ -47,6 +71,44 @@
 #ifdef __cplusplus
 extern "C" {
 #endif
+
+/* ---- Names for the numbers. ------------------------------------------------------------------------ */
+
+#define BROTHSTITCH_VERSION "0.1.0"
+#define BROTHSTITCH_VERSION_NUMBER 100 /* major * 10,000 + minor * 100 + patch */
+
+/* What a call returns. From BROTHSTITCH_REFUSED on it is a refusal, whose number is what is above it. */
+#define BROTHSTITCH_NO 0u
+#define BROTHSTITCH_YES 1u
+#define BROTHSTITCH_DONE 0u
+#define BROTHSTITCH_BELOW_THRESHOLD 0u
+#define BROTHSTITCH_BUILT 1u
+#define BROTHSTITCH_REFUSED 100u
+
+#define BROTHSTITCH_TOO_FEW 1u
+#define BROTHSTITCH_TOO_MANY 2u
+#define BROTHSTITCH_SIZES_DIFFER 3u
+#define BROTHSTITCH_NOT_CLOSED 4u
+#define BROTHSTITCH_BAD_SCALE 5u
+#define BROTHSTITCH_BAD_HEIGHT 7u
+#define BROTHSTITCH_NO_ROOM 8u
+#define BROTHSTITCH_DAMAGED 9u
+
+#define BROTHSTITCH_EDGE_EXCLUDED 0u
+#define BROTHSTITCH_EDGE_ALLOWED 1u
+#define BROTHSTITCH_MODE_FLOAT 0u
+#define BROTHSTITCH_MODE_INTEGER 1u
+#define BROTHSTITCH_OPTION_STRIPES 1u
+#define BROTHSTITCH_OPTION_TREE 2u
+
+#define BROTHSTITCH_MAX_RINGS 64
+#define BROTHSTITCH_MIN_POINTS 2
+#define BROTHSTITCH_MAX_POINTS 4097
+#define BROTHSTITCH_MAX_STRIPES 65536
+#define BROTHSTITCH_DEFAULT_THRESHOLD 64
+
+/* Numbers a ring in boxes. */
+#define BROTHSTITCH_BOX 4
 
 /* ---- Lists: the segments of a ring whose closed height range holds y. ----------------------------- */
 
