@@ -2,6 +2,7 @@
 
 pub mod ask;
 pub mod board;
+pub mod check;
 pub mod decimal;
 pub mod draw;
 pub mod machine;

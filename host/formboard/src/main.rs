@@ -1,5 +1,6 @@
 use formboard::ask::{ask, Answers};
 use formboard::board::Board;
+use formboard::check::check;
 use formboard::draw::draw;
 use formboard::machine::{csv, json};
 use formboard::options::{parse, Command, Format, Options, HELP, VERSION};
@@ -50,6 +51,11 @@ fn run(options: &Options) -> Result<bool, String> {
     }
     let board = read(&bytes_of(file)?).map_err(|error| format!("{file}: {error}"))?;
     let answers = ask(&board, options.build, &options.damages)?;
+    if options.check {
+        let found = check(&board, &answers);
+        print(&found.iter().map(|line| format!("{line}\n")).collect::<String>())?;
+        return Ok(found.is_empty());
+    }
     print(&match options.format {
         Format::Table => table(&board, &answers),
         Format::Csv => csv(&board, &answers),

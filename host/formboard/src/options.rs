@@ -17,6 +17,9 @@ its line, on standard error.
 
 options (a value may also stand behind a =, as in --format=csv):
   --format FORM      table (default), csv or json
+  --check            print what is worth a second look instead: broken zones,
+                     zones that overlap, shared lines that neither zone holds
+                     or both hold, splices less than a unit from a line
   --draw OUT         also draw the board as SVG (A4, landscape) into the file OUT,
                      which is never the board itself
   --index KIND       the index to ask through: none, stripes, tree or both
@@ -43,8 +46,9 @@ The file, a line at a time (docs/BOARD.md has all of it):
   # a comment; a line that starts with a place goes on with the ring above it
 
 exit status:
-  0  every zone was taken and every splice got its part
-  1  a zone or a splice was refused (table and drawing are made all the same)
+  0  every zone was taken and every splice got its part; --check found nothing
+  1  a zone or a splice was refused (table and drawing are made all the same);
+     --check found something
   2  the command line or the file cannot be read, or an output cannot be written;
      for a file the message has the line number, what was expected, and what
      stood there. A reader that closes the pipe early is no error.
@@ -68,6 +72,7 @@ pub struct Options {
     pub draw: Option<String>,
     pub build: BuildOptions,
     pub rays: bool,
+    pub check: bool,
     pub damages: Vec<Damage>,
 }
 
@@ -125,7 +130,15 @@ impl<'b> Value<'_, 'b> {
 impl Options {
     fn plain() -> Options {
         let build = BuildOptions::default();
-        Options { file: String::new(), format: Format::Table, draw: None, build, rays: false, damages: Vec::new() }
+        Options {
+            file: String::new(),
+            format: Format::Table,
+            draw: None,
+            build,
+            rays: false,
+            check: false,
+            damages: Vec::new(),
+        }
     }
 
     /// An option that takes a value; false where there is no such option.
@@ -179,6 +192,7 @@ pub fn parse(arguments: &[String]) -> Result<Command, String> {
                 ("--help" | "-h", None) => return Ok(Command::Help),
                 ("--version" | "-V", None) => return Ok(Command::Version),
                 ("--rays", None) => options.rays = true,
+                ("--check", None) => options.check = true,
                 _ => {
                     let mut value = Value { option, inline, rest: &mut rest };
                     if !options.valued(&mut value)? {

@@ -96,6 +96,39 @@ fn for_other_programs() {
     assert!(csv.contains("\ns,1,1,,refused,z,5,0,"), "{csv}");
 }
 
+#[test]
+fn what_is_worth_a_second_look() {
+    let found = |board: &str| {
+        let ran = formboard(&["--check", board]);
+        assert_eq!(text(&ran.stderr), "");
+        (ran.status.code(), text(&ran.stdout).to_string())
+    };
+    let border = "zones wet-1 and dry-1 share a line that neither holds, as at 50.000,140.000\n\
+                  zones wet-2 and dry-2 share a line that both hold, as at 150.000,140.000\n";
+    assert_eq!(found("lesson-border.board"), (Some(1), border.to_string()));
+    assert_eq!(found("lesson-index.board"), (Some(0), String::new()));
+    let tests = "splice P2: less than 0.001 units from the border of whole, and not on it (a unit is 1/1000000 mm)\n\
+                 splice R1: 0.300 units from the border of rounded, and not on it (a unit is 1/1000000 mm)\n";
+    assert_eq!(found("lesson-tests.board"), (Some(1), tests.to_string()));
+    let bay = found("engine-bay.board").1;
+    for pair in ["engine and turbo", "cowl and drain", "fuse-box and drain"] {
+        assert!(bay.contains(&format!("zones {pair} overlap, as near ")), "{bay}");
+    }
+    assert!(bay.contains("zones engine and cowl share a line that neither holds, as at 600.000,830.000\n"), "{bay}");
+    assert_eq!(bay.lines().count(), 4);
+    // the same outline twice, and one that lies in a cut-out of the other
+    let ring = "outline 0,0 9,0 9,9 0,9 0,0\n";
+    let zone = |name: &str, rings: &str| format!("zone {name} dry\nedge excluded\nmode integer\nscale 1\n{rings}");
+    let (status, out, _) = said(&["--check", "-"], &(zone("a", ring) + &zone("b", ring)));
+    assert_eq!((status, out.as_str()), (Some(1), "zones a and b overlap, as near 4.500,4.384\n"));
+    let cut = format!("{ring}cut-out 2,2 7,2 7,7 2,7 2,2\n");
+    let inner = zone("b", "outline 2,2 7,2 7,7 2,7 2,2\n");
+    assert_eq!(said(&["--check", "-"], &(zone("a", &cut) + &inner)).0, Some(0));
+    let broken = zone("c", "outline 0,0 9,0 9,9\n");
+    let (_, out, _) = said(&["--check", "-"], &broken);
+    assert_eq!(out, "line 5: zone c, its outline: refusal 4: ring 0 is not closed: its first and last point differ\n");
+}
+
 /// Twenty thousand splices round a zone of 4,096 sides.
 fn large() -> String {
     let corner = |i: usize| {
