@@ -1,5 +1,5 @@
 # The one door. `make test` is all tests, `make demo` the example board; `make compare` asks the Rust at length, `make soak` the
-# C interface with bad input, `make bench` measures, `make more-edits` tries more must-fail edits.
+# C interface with bad input, `make bench` measures, `make more-edits` tries the edits beyond the gate's.
 .PHONY: test check fmt more-edits
 
 # The proofs come first, since what follows links the proved library; rt's count of them is the last line.
@@ -16,9 +16,9 @@ check:
 fmt:
 	rt fmt
 
-# Must-fail edits beyond those that the gate tries, one after the other.
-more-edits: check
-	more-edits/run
+# The edits of crates/NAME/must-fail-more, by the gate's rules. `tools/edits try all CRATE` tries those of one crate.
+more-edits:
+	tools/edits try more
 
 include oracle/oracle.mk
 include host/host.mk
