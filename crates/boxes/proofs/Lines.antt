@@ -1,16 +1,15 @@
 -- Which boxes meet a height line. Assumes nothing.
 use mathlib.Core.Path.{_≡_, refl, sym, ap, _∙_, subst}
-use mathlib.Core.Logic.{inl, inr}
 use mathlib.Core.Bool.{Bool, true, false, not, cond, _&&_, _||_, and-true}
 use lib.Dec.{T}
 use lib.Ieee.{Float, isNan, lt, le}
 use lib.Ieee.Fits.{and-i, and-l, and-r}
 use lib.Ieee.Bits.{is-true}
-use Rattle.floats.proofs.Parts.{or-split, or-left, or-right}
-use Rattle.floats.proofs.Order.{le-trans, le-refl, lt-le, lt-not-le, le-left, le-right}
+use Rattle.floats.specs.Values.{lesserOf, greaterOf}
+use Rattle.floats.proofs.Order.{le-trans, lt-not-le, le-left, le-right}
+use Rattle.floats.proofs.Values.{lesser-le, le-greater, between, between-back}
 use Rattle.boxes.specs.declared.Rect.{Rect}
 use Rattle.boxes.specs.Boxes.{meets}
-use Rattle.boxes.specs.Segments.{lesser, greater}
 use Rattle.boxes.specs.Quads.{box}
 use Rattle.boxes.proofs.Quads.{Lies, not-below}
 
@@ -60,33 +59,11 @@ same false true p q = absurd (q tt)
 same false false p q = refl
 
 module _ (u v : Float) (p : isNan u ≡ false) (q : isNan v ≡ false) where
-  ordered : lt u v ≡ false → T (le v u)
-  ordered e = subst T (ap not (sym e) ∙ not-below u v p q) tt
+  pub lesser-below-greater : T (le (lesserOf u v) (greaterOf u v))
+  lesser-below-greater = le-trans (lesserOf u v) u (greaterOf u v) (lesser-le u v p q .0) (le-greater u v p q .0)
 
-  -- the lesser is at most each, and the greater at least each
-  bounds : T (le (lesser u v) u) × T (le (lesser u v) v) × T (le u (greater u v)) × T (le v (greater u v))
-  bounds = go (lt u v) refl
-    where
-      go : (t : Bool) → lt u v ≡ t → T (le (cond t u v) u) × T (le (cond t u v) v) × T (le u (cond t v u)) × T (le v (cond t v u))
-      go true e = let h = lt-le u v (subst T (sym e) tt) in (le-refl u p, h, h, le-refl v q)
-      go false e = let h = ordered e in (h, le-refl v q, le-refl u p, h)
-
-  pub lesser-below-greater : T (le (lesser u v) (greater u v))
-  lesser-below-greater = le-trans (lesser u v) u (greater u v) (bounds .0) (bounds .2)
-
-  pub range-is : (y : Float) → (le u y && le y v || le v y && le y u) ≡ (le (lesser u v) y && le y (greater u v))
-  range-is y = same (le u y && le y v || le v y && le y u) (le (lesser u v) y && le y (greater u v)) forth (back (lt u v))
-    where
-      forth : T (le u y && le y v || le v y && le y u) → T (le (lesser u v) y && le y (greater u v))
-      forth t = elim (or-split (le u y && le y v) (le v y && le y u) t) [
-        | inl h ↦
-            and-i (le (lesser u v) y) (le y (greater u v)) (le-trans (lesser u v) u y (bounds .0) (and-l (le u y) (le y v) h))
-            (le-trans y v (greater u v) (and-r (le u y) (le y v) h) (bounds .3))
-        | inr h ↦
-            and-i (le (lesser u v) y) (le y (greater u v)) (le-trans (lesser u v) v y (bounds .1) (and-l (le v y) (le y u) h))
-            (le-trans y u (greater u v) (and-r (le v y) (le y u) h) (bounds .2))
-      ]
-
-      back : (t : Bool) → T (le (cond t u v) y && le y (cond t v u)) → T (le u y && le y v || le v y && le y u)
-      back true h = or-left (le u y && le y v) (le v y && le y u) h
-      back false h = or-right (le u y && le y v) (le v y && le y u) h
+  pub range-is : (y : Float) → (le u y && le y v || le v y && le y u) ≡ (le (lesserOf u v) y && le y (greaterOf u v))
+  range-is y =
+      same (le u y && le y v || le v y && le y u) (le (lesserOf u v) y && le y (greaterOf u v))
+      (λ t. let h = between u v y t in and-i (le (lesserOf u v) y) (le y (greaterOf u v)) (h .0) (h .1))
+      (λ t. between-back u v y p q (and-l (le (lesserOf u v) y) (le y (greaterOf u v)) t) (and-r (le (lesserOf u v) y) (le y (greaterOf u v)) t))

@@ -42,10 +42,10 @@ merged m k i l =
     ap (λ (z : ℕ). z * 2 ^ l) (mul-assoc m (2 ^ k) (2 ^ i) ∙ ap (λ (z : ℕ). m * z) (sym (pow-add 2 k i))) ∙ mul-assoc m (2 ^ (k + i)) (2 ^ l) ∙ ap (λ (z : ℕ). m * z) (sym (pow-add 2 (k + i) l))
 
 module _ (σ s : Bool) (m i : ℕ) (I : i ≤ 1) where
-  exact-up : (k : ℕ) → T (fits binary64 (fin s m (pos k))) → m * 2 ^ k ≤ 2 ^ 31 → HasValue (round binary64 σ (m * 2 ^ k * 2 ^ i) 1) σ (m * 2 ^ k * 2 ^ i) 1
+  exact-up : (k : ℕ) → T (fits binary64 (fin s m (pos k))) → m * 2 ^ k ≤ 2 ^ 400 → HasValue (round binary64 σ (m * 2 ^ k * 2 ^ i) 1) σ (m * 2 ^ k * 2 ^ i) 1
   exact-up k f h =
       round-exact binary64 σ (m * 2 ^ k * 2 ^ i) 1 m (k + i + 1074) (zero-lt-suc 0) (small s m (pos k) f)
-      (lt-of-le-of-lt (le-trans (le-of-eq (sym (merged m k i 1074))) (mul-le-mul-right (2 ^ 1074) (mul-le-mul h (pow-mono I)))) (pow-lt {i = 1106} {j = 2098} (lit< tt)))
+      (lt-of-le-of-lt (le-trans (le-of-eq (sym (merged m k i 1074))) (mul-le-mul-right (2 ^ 1074) (mul-le-mul h (pow-mono I)))) (pow-lt {i = 1475} {j = 2098} (lit< tt)))
       (merged m k i 1074 ∙ sym (mul-one (m * 2 ^ (k + i + 1074))))
 
   exact-down : (k : ℕ) → T (fits binary64 (fin s m (negsuc k))) → HasValue (round binary64 σ (m * 1 * 2 ^ i) (2 ^ suc k)) σ (m * 1 * 2 ^ i) (2 ^ suc k)
@@ -78,11 +78,11 @@ same-value (fin r m e) (fin u n d) s a c C p q =
     level-self true i j e = rw (eq-eqb i j e) tt
     level-self false i j e = rw (eq-eqb i j e) tt
 
-exact : (s : Bool) (m i : ℕ) (e : ℤ) → i ≤ 1 → T (fits binary64 (fin s m e)) → Under (fin s m e) (fin false 1 (pos 31)) → HasValue (round binary64 s (m * up e * 2 ^ i) (down e)) s (m * up e * 2 ^ i) (down e)
-exact s m i (pos k) I f u = exact-up s s m i I k f (plain (m * 2 ^ k) u)
+exact : (s : Bool) (m i : ℕ) (e : ℤ) → i ≤ 1 → T (fits binary64 (fin s m e)) → Under (fin s m e) (fin false 1 (pos 400)) → HasValue (round binary64 s (m * up e * 2 ^ i) (down e)) s (m * up e * 2 ^ i) (down e)
+exact s m i (pos k) I f u = exact-up s s m i I k f (plain (m * 2 ^ k) (2 ^ 400) u)
   where
-    plain : (x : ℕ) → x * 1 ≤ 1 * 2 ^ 31 * 1 → x ≤ 2 ^ 31
-    plain x h = omega arith
+    plain : (x l : ℕ) → x * 1 ≤ 1 * l * 1 → x ≤ l
+    plain x l h = omega arith
 exact s m i (negsuc k) I f u = exact-down s s m i I k f
 
 doubled : (s : Bool) (m : ℕ) (e : ℤ) → add binary64 (fin s m e) (fin s m e) ≡ round binary64 s (m * up e * 2) (down e)

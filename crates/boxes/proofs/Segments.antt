@@ -1,14 +1,15 @@
 -- The box of a stored segment: a box of coordinates, as wide as it is high at least 0, that holds exactly the heights between the ends. Assumes nothing.
 use mathlib.Core.Path.{_≡_, _∙_, sym}
 use Prim.Native.Nat.{_^_, _<_}
-use mathlib.Core.Bool.{Bool, true, false, cond, _&&_, _||_}
+use mathlib.Core.Bool.{false, _&&_, _||_}
 use lib.Dec.{T}
 use lib.Signed.{mag}
-use lib.Ieee.{Float, isNan, lt, le}
+use lib.Ieee.{Float, isNan, le}
 use Rattle.boxes.specs.declared.Rect.{Rect}
 use Rattle.boxes.specs.declared.Segment.{Segment}
 use Rattle.boxes.specs.Boxes.{meets}
-use Rattle.boxes.specs.Segments.{pointOf, lesser, greater, rectOf}
+use Rattle.boxes.specs.Segments.{pointOf, rectOf}
+use Rattle.floats.proofs.Values.{lesser-either, greater-either}
 use Rattle.boxes.proofs.Sizes.{Coordinate, coordinate-number, stored-coordinate}
 use Rattle.boxes.proofs.Quads.{Lies, Placed}
 use Rattle.boxes.proofs.Lines.{heightLine, own-meets, lesser-below-greater, range-is}
@@ -19,16 +20,6 @@ pub record Stored (s : Segment) : Type 0 where
   pub ay : mag (s .a .y) < 2 ^ 31
   pub bx : mag (s .b .x) < 2 ^ 31
   pub by : mag (s .b .y) < 2 ^ 31
-
-either : (t : Bool) (u v : Float) → Coordinate u → Coordinate v → Coordinate (cond t u v)
-either true u v p q = p
-either false u v p q = q
-
-lesser-coordinate : (u v : Float) → Coordinate u → Coordinate v → Coordinate (lesser u v)
-lesser-coordinate u v p q = either (lt u v) u v p q
-
-greater-coordinate : (u v : Float) → Coordinate u → Coordinate v → Coordinate (greater u v)
-greater-coordinate u v p q = either (lt u v) v u q p
 
 module _ (s : Segment) (z : Stored s) where
   ax-coordinate : Coordinate (pointOf (s .a) .x)
@@ -46,10 +37,10 @@ module _ (s : Segment) (z : Stored s) where
   pub rect-placed : Placed (rectOf s)
   rect-placed =
       record {
-        left = lesser-coordinate (pointOf (s .a) .x) (pointOf (s .b) .x) ax-coordinate bx-coordinate;
-        low = lesser-coordinate (pointOf (s .a) .y) (pointOf (s .b) .y) ay-coordinate by-coordinate;
-        right = greater-coordinate (pointOf (s .a) .x) (pointOf (s .b) .x) ax-coordinate bx-coordinate;
-        high = greater-coordinate (pointOf (s .a) .y) (pointOf (s .b) .y) ay-coordinate by-coordinate;
+        left = lesser-either Coordinate (pointOf (s .a) .x) (pointOf (s .b) .x) ax-coordinate bx-coordinate;
+        low = lesser-either Coordinate (pointOf (s .a) .y) (pointOf (s .b) .y) ay-coordinate by-coordinate;
+        right = greater-either Coordinate (pointOf (s .a) .x) (pointOf (s .b) .x) ax-coordinate bx-coordinate;
+        high = greater-either Coordinate (pointOf (s .a) .y) (pointOf (s .b) .y) ay-coordinate by-coordinate;
       }
 
   pub rect-width : T (le (rectOf s .min .x) (rectOf s .max .x))

@@ -7,7 +7,8 @@ use mathlib.Core.Bool.{Bool, true, false, _&&_, Bool·beq, cond}
 use lib.IntN.{ℤ, pos, negsuc, natAbs}
 use lib.Signed.{mag}
 use lib.Dec.{T, ltb, leb, eqb, ltb→lt, leb→le}
-use lib.Ieee.{Float, nan, inf, fin, binary64, up, down, round, sum, add, div, ofBits, ofInt, fits, isNan}
+use lib.Pow.{pow-mono}
+use lib.Ieee.{Float, nan, inf, fin, binary64, up, down, round, sum, add, sub, neg, div, ofBits, ofInt, fits, isNan}
 use lib.Ieee.Fits.{down-pos, and-l, and-r, div-fits, ofInt-fits}
 use lib.Ieee.Exact.{HasValue}
 use lib.Ieee.Scale.{finite}
@@ -50,9 +51,9 @@ under-finite (inf s) (inf t) h k = k
 under-finite (inf s) (fin t n d) h k = h
 under-finite (fin s m e) y h k = tt
 
--- ---- a coordinate: its size is at most 2 ^ 31
+-- ---- a coordinate: its size is at most 2 ^ 400, far over that of an i32, and so small that no sum of two is infinite
 abbrev pub Coordinate : Float → Type 0
-Coordinate x = T (fits binary64 x) × Under x (fin false 1 (pos 31))
+Coordinate x = T (fits binary64 x) × Under x (fin false 1 (pos 400))
 
 pub coordinate-number : (x : Float) → Coordinate x → Number x
 unfolding isNan
@@ -67,35 +68,54 @@ stored-coordinate z h = (ofInt-fits binary64 z, from (ofInt binary64 z) (whole-v
     size (pos n) h = omega arith
     size (negsuc n) h = omega arith
 
-    from : (x : Float) → HasValue x (minus z) (natAbs z) 1 → Under x (fin false 1 (pos 31))
+    from : (x : Float) → HasValue x (minus z) (natAbs z) 1 → Under x (fin false 1 (pos 400))
     from nan v = v
     from (inf s) v = v
-    from (fin s m e) v = most (m * up e) (natAbs z) (down e) (v .1) (size z h)
+    from (fin s m e) v = most (m * up e) (natAbs z) (down e) (2 ^ 400) (v .1) (le-trans (size z h) (pow-mono {i = 31} {j = 400} (omega arith)))
       where
-        most : (x n e : ℕ) → x * 1 ≡ n * e → n ≤ 2 ^ 31 → x * 1 ≤ 2 ^ 31 * e
-        most x n e p q = omega (arith, mul-le-mul-right e q)
+        most : (x n e l : ℕ) → x * 1 ≡ n * e → n ≤ l → x * 1 ≤ l * e
+        most x n e l p q = omega (arith, mul-le-mul-right e q)
 
-add-under : (x y : Float) → Under x (fin false 1 (pos 31)) → Under y (fin false 1 (pos 31)) → Under (add binary64 x y) (round binary64 false (2 ^ 32) 1)
+add-under : (x y : Float) → Under x (fin false 1 (pos 400)) → Under y (fin false 1 (pos 400)) → Under (add binary64 x y) (round binary64 false (2 ^ 401) 1)
 unfolding add
 add-under nan y p q = p
 add-under (inf s) y p q = absurd p
 add-under (fin s m e) nan p q = absurd q
 add-under (fin s m e) (inf t) p q = absurd q
-add-under (fin s m e) (fin t n d) p q = sum-under s t (m * up e * down d) (n * up d * down e) (down e * down d) (2 ^ 32) (mul-pos (down-pos e) (down-pos d)) (both (m * up e) (down e) (n * up d) (down d) p q)
+add-under (fin s m e) (fin t n d) p q = sum-under s t (m * up e * down d) (n * up d * down e) (down e * down d) (2 ^ 401) (mul-pos (down-pos e) (down-pos d)) (both (m * up e) (down e) (n * up d) (down d) (2 ^ 400) p q)
   where
-    both : (x e y d : ℕ) → x * 1 ≤ 2 ^ 31 * e → y * 1 ≤ 2 ^ 31 * d → x * d + y * e ≤ 2 ^ 32 * (e * d)
-    both x e y d p q = omega (arith, mul-le-mul-right d p, mul-le-mul-right e q)
+    both : (x e y d l : ℕ) → x * 1 ≤ l * e → y * 1 ≤ l * d → x * d + y * e ≤ (2 * l) * (e * d)
+    both x e y d l p q = omega (arith, mul-le-mul-right d p, mul-le-mul-right e q)
 
 pub two : ofBits binary64 0x4000_0000_0000_0000 ≡ fin false 1 (pos 1)
 unfolding ofBits
 two = refl
 
-half : div binary64 (round binary64 false (2 ^ 32) 1) (fin false 1 (pos 1)) ≡ fin false 1 (pos 31)
+half : div binary64 (round binary64 false (2 ^ 401) 1) (fin false 1 (pos 1)) ≡ fin false 1 (pos 400)
 unfolding div round
 half = refl
 
 pub middle-coordinate : (x y : Float) → Coordinate x → Coordinate y → Coordinate (middle x y)
 middle-coordinate x y p q = (
   div-fits binary64 (add binary64 x y) (ofBits binary64 0x4000_0000_0000_0000),
-  rw two (subst (λ (z : Float). Under (div binary64 (add binary64 x y) (fin false 1 (pos 1))) z) half (div-under binary64 (add binary64 x y) (round binary64 false (2 ^ 32) 1) false 0 (pos 1) (add-under x y (p .1) (q .1)))),
+  rw two (subst (λ (z : Float). Under (div binary64 (add binary64 x y) (fin false 1 (pos 1))) z) half (div-under binary64 (add binary64 x y) (round binary64 false (2 ^ 401) 1) false 0 (pos 1) (add-under x y (p .1) (q .1)))),
 )
+
+-- the difference of two coordinates is finite
+neg-under : (x y : Float) → Under x y → Under (neg x) y
+unfolding neg
+neg-under nan y h = h
+neg-under (inf s) nan h = h
+neg-under (inf s) (inf t) h = h
+neg-under (inf s) (fin t n d) h = h
+neg-under (fin s m e) nan h = h
+neg-under (fin s m e) (inf t) h = h
+neg-under (fin s m e) (fin t n d) h = h
+
+wide-finite : T (finite (round binary64 false (2 ^ 401) 1))
+unfolding round
+wide-finite = tt
+
+pub difference-finite : (x y : Float) → Coordinate x → Coordinate y → T (finite (sub binary64 x y))
+unfolding sub
+difference-finite x y p q = under-finite (add binary64 x (neg y)) (round binary64 false (2 ^ 401) 1) (add-under x (neg y) (p .1) (neg-under y (fin false 1 (pos 400)) (q .1))) wide-finite

@@ -1,9 +1,11 @@
 // Points, boxes and segments. Every promise is an equality with a definition of specs/, so that each
 // call has one answer.
+use floats::greater;
+use floats::lesser;
 ghost use mathlib.Core.Path.{_≡_};
 ghost use lib.Ieee.{binary64, ofInt};
 ghost use Rattle.boxes.specs.Boxes.{holds, meets, nwOf, swOf, seOf, neOf, southOf, eastOf, northOf, westOf, sideAt};
-ghost use Rattle.boxes.specs.Segments.{pointOf, lesser, greater, rectOf};
+ghost use Rattle.boxes.specs.Segments.{pointOf, rectOf};
 ghost use Rattle.boxes.specs.Quads.{box, chosen, quadBounds};
 
 pub struct Point {
@@ -170,18 +172,6 @@ fn wide(n: i32) -> f64
     n as f64
 }
 
-fn least(x: f64, y: f64) -> f64
-    ensures { λ r. ⌜ r ≡ lesser x y ⌝ }
-{
-    if x < y { x } else { y }
-}
-
-fn most(x: f64, y: f64) -> f64
-    ensures { λ r. ⌜ r ≡ greater x y ⌝ }
-{
-    if x < y { y } else { x }
-}
-
 impl I32Point {
     pub fn point(self) -> Point
         ensures { λ r. ⌜ r ≡ pointOf self ⌝ }
@@ -201,12 +191,12 @@ impl Segment {
         let b = self.b.point();
         Rect {
             min: Point {
-                x: least(a.x, b.x),
-                y: least(a.y, b.y),
+                x: lesser(a.x, b.x),
+                y: lesser(a.y, b.y),
             },
             max: Point {
-                x: most(a.x, b.x),
-                y: most(a.y, b.y),
+                x: greater(a.x, b.x),
+                y: greater(a.y, b.y),
             },
         }
     }

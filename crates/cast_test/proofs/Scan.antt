@@ -1,9 +1,8 @@
 -- The ring test by scan, one segment at a time, and the ways through it. Assumes nothing.
 use mathlib.Core.Path.{_≡_, sym, ap, _∙_}
 use mathlib.Core.Bool.{Bool, true, false, cond, _&&_}
-use mathlib.Core.List.{List}
 use Prim.Native.Nat.{ℕ, _+_, _≤_, _<_}
-use lib.IntN.{ℤ}
+use lib.Ieee.{Float}
 use lib.Ieee.Scale.{finite}
 use Rattle.answers.specs.declared.Refusal.{Refusal}
 use Rattle.answers.specs.declared.Answer.the-variants.{No, Refused}
@@ -11,26 +10,26 @@ use Rattle.answers.specs.Answers.{said}
 use Rattle.boxes.specs.declared.Point.{Point}
 use Rattle.room.specs.Numbers.{upTo}
 use Rattle.room.proofs.UpTo.{upTo-done, upTo-more}
+use Rattle.rings.specs.declared.Checked.{Checked}
 use Rattle.rings.specs.declared.Checked.the-variants.{Sound, Faulty}
-use Rattle.rings.specs.Ring.{segmentAt, segments, holdsHeight, meeting}
-use Rattle.rings.specs.Checks.{ringChecked}
+use Rattle.rings.specs.Ring.{sideAt, segments, holdsHeight, meeting}
 use Rattle.cast_test.specs.declared.Seen.{Seen}
-use Rattle.cast_test.specs.Test.{scanOf, scanTest, scanTested}
+use Rattle.cast_test.specs.Test.{scanOf, scanTest, scanTestedBy}
 use Rattle.cast_test.specs.Inner.Steps.{stepOf}
 use Rattle.cast_test.proofs.Steps.{settled, settled-step, settled-done, settled-none}
 
-module _ (ring : List ℤ) (n : ℕ) (p : Point) (edge : Bool) where
+module _ (ring : ℕ → Float) (n : ℕ) (p : Point) (edge : Bool) where
   -- what is seen before segment i and the segments from it on make the answer
   abbrev pub Scanning : Seen → ℕ → Type 0
-  Scanning s i = settled ring p edge s (upTo (λ i. holdsHeight (segmentAt ring i) (p .y)) n i) ≡ scanOf ring n p edge
+  Scanning s i = settled ring p edge s (upTo (λ i. holdsHeight (sideAt ring i) (p .y)) n i) ≡ scanOf ring n p edge
 
   pub scanning-start : Scanning (record { on = false; inside = false }) 0
   scanning-start = settled-none ring p edge _
 
   pub scanning-more : (s : Seen) (i : ℕ) → i < n → Scanning s i → Scanning (stepOf ring i p s) (i + 1)
   scanning-more s i h e =
-      sym (settled-step ring p edge s i (upTo (λ i. holdsHeight (segmentAt ring i) (p .y)) n (i + 1)))
-      ∙ sym (ap (settled ring p edge s) (upTo-more (λ i. holdsHeight (segmentAt ring i) (p .y)) n i h))
+      sym (settled-step ring p edge s i (upTo (λ i. holdsHeight (sideAt ring i) (p .y)) n (i + 1)))
+      ∙ sym (ap (settled ring p edge s) (upTo-more (λ i. holdsHeight (sideAt ring i) (p .y)) n i h))
       ∙ e
 
   -- "on" ends it
@@ -42,29 +41,29 @@ module _ (ring : List ℤ) (n : ℕ) (p : Point) (edge : Bool) where
   scanning-done s i h o e =
       sym (ap (λ (b : Bool). cond b edge (s .inside)) o)
       ∙ sym (settled-done ring p edge s)
-      ∙ sym (ap (settled ring p edge s) (upTo-done (λ i. holdsHeight (segmentAt ring i) (p .y)) n i h))
+      ∙ sym (ap (settled ring p edge s) (upTo-done (λ i. holdsHeight (sideAt ring i) (p .y)) n i h))
       ∙ e
 
 -- all segments of a ring
-pub scan-meeting : (ring : List ℤ) (points : ℕ) (p : Point) (edge : Bool) → (finite (p .x) && finite (p .y)) ≡ true
+pub scan-meeting : (ring : ℕ → Float) (points : ℕ) (p : Point) (edge : Bool) → (finite (p .x) && finite (p .y)) ≡ true
     → said (scanOf ring (segments points) p edge) ≡ scanTest ring points p edge
 unfolding meeting
 scan-meeting ring points p edge f = rw f
 
-module _ (ring : List ℤ) (points : ℕ) (p : Point) (edge : Bool) where
+module _ (checked : Checked) (ring : ℕ → Float) (points : ℕ) (p : Point) (edge : Bool) where
   -- of a ring that passed its checks
-  pub tested-checked : ringChecked ring points ≡ Sound → scanTested ring points p edge ≡ scanTest ring points p edge
-  unfolding scanTested
+  pub tested-checked : checked ≡ Sound → scanTestedBy checked ring points p edge ≡ scanTest ring points p edge
+  unfolding scanTestedBy
   tested-checked e = rw e
 
-  pub tested-faulty : (why : Refusal) → ringChecked ring points ≡ Faulty why → scanTested ring points p edge ≡ Refused why
-  unfolding scanTested
+  pub tested-faulty : (why : Refusal) → checked ≡ Faulty why → scanTestedBy checked ring points p edge ≡ Refused why
+  unfolding scanTestedBy
   tested-faulty why e = rw e
 
-  pub tested-unfit : ringChecked ring points ≡ Sound → (finite (p .x) && finite (p .y)) ≡ false → scanTested ring points p edge ≡ No
-  unfolding scanTested
+  pub tested-unfit : checked ≡ Sound → (finite (p .x) && finite (p .y)) ≡ false → scanTestedBy checked ring points p edge ≡ No
+  unfolding scanTestedBy
   tested-unfit e f = rw (e, f)
 
-  pub tested-sound : ringChecked ring points ≡ Sound → (finite (p .x) && finite (p .y)) ≡ true → scanTested ring points p edge ≡ said (scanOf ring (segments points) p edge)
-  unfolding scanTested
+  pub tested-sound : checked ≡ Sound → (finite (p .x) && finite (p .y)) ≡ true → scanTestedBy checked ring points p edge ≡ said (scanOf ring (segments points) p edge)
+  unfolding scanTestedBy
   tested-sound e f = rw e (sym (scan-meeting ring points p edge f))

@@ -9,13 +9,10 @@ use rings::check_ring;
 use rings::holds_height;
 ghost use mathlib.Core.Path.{_≡_};
 ghost use Prim.Native.Nat.{_+_, _*_, _<_, _≤_};
-ghost use lib.ListN.{length, getD};
-ghost use lib.IntN.{pos};
-ghost use lib.Ieee.{binary64, ofInt};
+ghost use lib.ListN.{length};
 ghost use Rattle.answers.specs.Answers.{said};
-ghost use Rattle.rays.specs.Raycast.{raycastOf};
-ghost use Rattle.rings.specs.Ring.{segmentAt};
-ghost use Rattle.cast_test.specs.Test.{scanOf, scanTested};
+ghost use Rattle.rings.specs.Ring.{wide};
+ghost use Rattle.cast_test.specs.Test.{castAt, scanOf, scanTested};
 ghost use Rattle.cast_test.specs.Inner.Steps.{seenNext, stepOf};
 
 // What is known so far: whether the point is on a segment, and else the answer.
@@ -39,30 +36,22 @@ fn next(cast: RaycastResult, seen: Seen) -> Seen
     }
 }
 
-// Number i of the ring as a float, which holds every i32.
-fn number(ring: &[i32], i: usize) -> f64
-    requires { ⌜ i < length (now ring) ⌝ }
-    ensures { λ r. ⌜ r ≡ ofInt binary64 (getD (now (ring .entry)) i (pos 0)) ⌝ }
-{
-    ring[i] as f64
-}
-
 // What `raycast` says of segment i. For the crates above, which have checked the ring.
 pub fn cast_at(ring: &[i32], i: usize, p: Point) -> RaycastResult
     requires { ⌜ i * 2 + 3 < length (now ring) ⌝ }
-    ensures { λ r. ⌜ r ≡ raycastOf (segmentAt (now (ring .entry)) i) p ⌝ }
+    ensures { λ r. ⌜ r ≡ castAt (wide (now (ring .entry))) i p ⌝ }
 {
-    let ax = number(ring, i * 2);
-    let ay = number(ring, i * 2 + 1);
-    let bx = number(ring, i * 2 + 2);
-    let by = number(ring, i * 2 + 3);
+    let ax = ring[i * 2];
+    let ay = ring[i * 2 + 1];
+    let bx = ring[i * 2 + 2];
+    let by = ring[i * 2 + 3];
     cast(ax, ay, bx, by, p.x, p.y)
 }
 
 // What segment i makes of it. For the crates above, which have checked the ring.
 pub fn step(ring: &[i32], i: usize, p: Point, seen: Seen) -> Seen
     requires { ⌜ i * 2 + 3 < length (now ring) ⌝ }
-    ensures { λ r. ⌜ r ≡ stepOf (now (ring .entry)) i p seen ⌝ }
+    ensures { λ r. ⌜ r ≡ stepOf (wide (now (ring .entry))) i p seen ⌝ }
 {
     if seen.on {
         return seen;
@@ -76,7 +65,7 @@ pub fn step(ring: &[i32], i: usize, p: Point, seen: Seen) -> Seen
 // The ring test of the first n segments, by scan. For the crates above, which have checked the ring and the point.
 pub fn scan_in(ring: &[i32], n: usize, p: Point, edge: bool) -> Answer
     requires { ⌜ n * 2 + 2 ≤ length (now ring) ⌝ }
-    ensures { λ r. ⌜ r ≡ said (scanOf (now (ring .entry)) n p edge) ⌝ }
+    ensures { λ r. ⌜ r ≡ said (scanOf (wide (now (ring .entry))) n p edge) ⌝ }
 {
     let mut seen = Seen {
         on: false,

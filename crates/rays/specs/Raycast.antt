@@ -4,6 +4,7 @@
 use mathlib.Core.Path.{_≡_}
 use mathlib.Core.Bool.{Bool, true, false, _&&_, _||_}
 use Prim.Native.Nat.{ℕ, zero, suc}
+use lib.IntN.{ℤ}
 use lib.Ieee.{Float, binary64, le, lt, eq, ne, sub, div}
 use Rattle.floats.specs.Next.{NextUp, nextUp}
 use Rattle.boxes.specs.declared.Point.{Point}
@@ -19,6 +20,9 @@ if false then r else s = s
 
 abbrev pub at : Float → Float → Point
 at x y = record { x = x; y = y }
+
+abbrev pub ends : ℤ → ℤ → ℤ → ℤ → Segment
+ends ax ay bx by = record { a = record { x = ax; y = ay }; b = record { x = bx; y = by } }
 
 -- v is below both ends, or above both
 abbrev pub outside : Float → Float → Float → Bool

@@ -1,12 +1,12 @@
 // `raycast`, in the order of its eight steps. The inner promises are equalities with definitions of
-// specs/. The public one says that the answer is the eight steps', which have one answer only
-// (`raycast-unique` of proofs/Rest.antt), and gives a definition that computes it.
+// specs/. The public ones say that the answer is the eight steps', which have one answer only
+// (`raycast-unique` of proofs/Rest.antt), and give a definition that computes it.
 use boxes::Point;
 use boxes::Segment;
 ghost use mathlib.Core.Path.{_≡_};
 ghost use mathlib.Core.Bool.{_&&_};
 ghost use lib.Ieee.{eq};
-ghost use Rattle.rays.specs.Raycast.{if_then_else_, at, within, steep, lastSteps, lift, castOf, Raycast, raycastOf};
+ghost use Rattle.rays.specs.Raycast.{if_then_else_, at, within, steep, lastSteps, lift, castOf, ends, Raycast, raycastOf};
 ghost use Rattle.rays.specs.declared.RaycastResult.the-variants.{Inside, Neither};
 
 // What `raycast` answers.
@@ -75,9 +75,9 @@ fn crossing(ax: f64, ay: f64, bx: f64, by: f64, px: f64, py: f64) -> RaycastResu
     eighth(bx, by, ax, ay, px, py)
 }
 
-// The eight steps on floats. For the ring tests, which read a segment's ends number by number: handed
-// over in registers, they cost half of what they do as a struct.
-pub fn cast(ax: f64, ay: f64, bx: f64, by: f64, px: f64, py: f64) -> RaycastResult
+// Steps 1 to 8 with one move at most in step 5, which is all that whole-number ends call for: between
+// neighbouring floats the steps move twice.
+fn moved_once(ax: f64, ay: f64, bx: f64, by: f64, px: f64, py: f64) -> RaycastResult
     ensures { λ r. ⌜ r ≡ castOf (at ax ay) (at bx by) (at px py) ⌝ }
 {
     if (ay != by) & (((py < ay) & (py < by)) | ((ay < py) & (by < py))) {
@@ -101,13 +101,20 @@ pub fn cast(ax: f64, ay: f64, bx: f64, by: f64, px: f64, py: f64) -> RaycastResu
     crossing(ax, ay, bx, by, px, lifted(ay, by, py))
 }
 
+// The eight steps, for the ring tests, which read a segment's ends number by number: handed over in
+// registers, they cost half of what they do as a struct.
+pub fn cast(ax: i32, ay: i32, bx: i32, by: i32, px: f64, py: f64) -> RaycastResult
+    ensures steps { λ r. ⌜ Raycast (ends ax ay bx by) (at px py) r ⌝ }
+    ensures computed { λ r. ⌜ r ≡ raycastOf (ends ax ay bx by) (at px py) ⌝ }
+{
+    moved_once(ax as f64, ay as f64, bx as f64, by as f64, px, py)
+}
+
 // What the ray from p to the right says of a segment, by 01's eight steps: p is on the segment, or
 // the ray crosses it (inside), or neither. p is any point, of NaNs and infinities too.
 pub fn raycast(seg: Segment, p: Point) -> RaycastResult
     ensures steps { λ r. ⌜ Raycast seg p r ⌝ }
     ensures computed { λ r. ⌜ r ≡ raycastOf seg p ⌝ }
 {
-    let a = seg.a.point();
-    let b = seg.b.point();
-    cast(a.x, a.y, b.x, b.y, p.x, p.y)
+    cast(seg.a.x, seg.a.y, seg.b.x, seg.b.y, p.x, p.y)
 }

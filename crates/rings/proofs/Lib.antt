@@ -4,3 +4,4 @@ pub mod Sizes
 pub mod RingTest
 pub mod Listing
 pub mod Ends
+pub mod Coordinates

@@ -14,7 +14,7 @@ use Rattle.rings.specs.declared.Checked.{Checked}
 use Rattle.rings.specs.declared.Checked.the-variants.{Sound, Faulty}
 use Rattle.rings.specs.declared.Listed.{Listed}
 use Rattle.rings.specs.declared.Listed.the-variants.{Count, Unlisted}
-use Rattle.rings.specs.Ring.{meeting}
+use Rattle.rings.specs.Ring.{wide, meeting}
 use Rattle.rings.specs.Checks.{ringChecked}
 
 -- the answer, and the room
@@ -33,8 +33,13 @@ abbrev pub listSound : Checked → List ℕ → Outcome → Outcome
 listSound Sound out later = later
 listSound (Faulty why) out later = untouched why out
 
--- listing by scan: rules 1 to 4, then 7, then the segments whose height range holds y
-unfoldable pub scanned : List ℤ → ℕ → Float → List ℕ → Outcome
-scanned ring points y out =
-    listSound (ringChecked ring points) out
+-- listing by scan: the checks on the ring, then 7, then the segments whose height range holds y. What the checks found is given, since they look at the
+-- stored numbers and what follows does not
+unfoldable pub scannedBy : Checked → (ℕ → Float) → ℕ → Float → List ℕ → Outcome
+scannedBy checked ring points y out =
+    listSound checked out
     (cond (finite y) (listedIn (meeting ring points y) out) (untouched BadHeight out))
+
+-- of a stored ring: rules 1 to 4
+abbrev pub scanned : List ℤ → ℕ → Float → List ℕ → Outcome
+scanned ring points y out = scannedBy (ringChecked ring points) (wide ring) points y out

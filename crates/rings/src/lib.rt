@@ -9,7 +9,7 @@ ghost use mathlib.Core.Path.{_≡_};
 ghost use Prim.Native.Nat.{_+_, _*_, _<_, _≤_};
 ghost use lib.ListN.{length};
 ghost use Rattle.room.specs.Numbers.{upTo};
-ghost use Rattle.rings.specs.Ring.{segmentAt, holdsHeight};
+ghost use Rattle.rings.specs.Ring.{wide, segmentAt, sideAt, holdsHeight};
 ghost use Rattle.rings.specs.Listing.{listedIn, scanned};
 ghost use Rattle.rings.specs.Checks.{closed, withinLimit, allWithin, ringChecked, gridChecked};
 
@@ -35,6 +35,14 @@ pub enum Checked {
 pub enum Listed {
     Count(usize),
     Unlisted(Refusal),
+}
+
+// Number i of a ring as a float, which holds every i32. For the crates above, which have checked the ring.
+pub fn coordinate(coords: &[i32], i: usize) -> f64
+    requires { ⌜ i < length (now coords) ⌝ }
+    ensures { λ r. ⌜ r ≡ wide (now (coords .entry)) i ⌝ }
+{
+    coords[i] as f64
 }
 
 // Segment i, from point i to point i + 1. For the crates above, which have checked the ring.
@@ -124,7 +132,7 @@ pub fn check_grid_ring(coords: &[i32], points: usize) -> Checked
 // Whether the closed height range of segment i holds y. For the crates above, which have checked the ring.
 pub fn holds_height(coords: &[i32], i: usize, y: f64) -> bool
     requires { ⌜ i * 2 + 3 < length (now coords) ⌝ }
-    ensures { λ r. ⌜ r ≡ holdsHeight (segmentAt (now (coords .entry)) i) y ⌝ }
+    ensures { λ r. ⌜ r ≡ holdsHeight (sideAt (wide (now (coords .entry))) i) y ⌝ }
 {
     let a = coords[i * 2 + 1] as f64;
     let b = coords[i * 2 + 3] as f64;
@@ -134,7 +142,7 @@ pub fn holds_height(coords: &[i32], i: usize, y: f64) -> bool
 // The numbers of those among n segments whose height range holds y, into room that holds zeros.
 fn list(coords: &[i32], n: usize, y: f64, out: &mut [u32]) -> Listed
     requires { ⌜ (n ≤ 4096) × (n * 2 + 2 ≤ length (now coords)) ⌝ }
-    ensures { λ r. ⌜ listedIn (upTo (λ i. holdsHeight (segmentAt (now (coords .entry)) i) y) n 0) (now (out .entry)) ≡ (r, now (out .exit)) ⌝ }
+    ensures { λ r. ⌜ listedIn (upTo (λ i. holdsHeight (sideAt (wide (now (coords .entry))) i) y) n 0) (now (out .entry)) ≡ (r, now (out .exit)) ⌝ }
 {
     zero_fill_u32(out);
     let mut k: usize = 0;

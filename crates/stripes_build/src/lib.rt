@@ -9,7 +9,7 @@ use stripes_index::least_y;
 use stripes_index::low_end;
 use stripes_index::prepare;
 use stripes_place::stripe_of;
-use stripes_place::wide;
+use room::wide;
 ghost use mathlib.Core.Path.{_≡_};
 ghost use Prim.Native.Nat.{_+_, _*_, _<_, _≤_};
 ghost use lib.ListN.{length, replicate};

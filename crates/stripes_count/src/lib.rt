@@ -1,5 +1,5 @@
 // How many stripes a ring calls for.
-use stripes_place::coordinate;
+use rings::coordinate;
 use whole::floor_within;
 ghost use mathlib.Core.Path.{_≡_};
 ghost use Prim.Native.Nat.{_+_, _*_, _<_, _≤_};

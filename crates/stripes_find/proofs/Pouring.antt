@@ -15,10 +15,10 @@ use Rattle.answers.specs.declared.Refusal.the-variants.{BadHeight, NoRoom, Dama
 use Rattle.room.specs.Room.{pad}
 use Rattle.room.proofs.Fill.{pad-none}
 use Rattle.rings.specs.declared.Checked.the-variants.{Sound, Faulty}
-use Rattle.rings.specs.Ring.{segmentAt, segments, holdsHeight}
+use Rattle.rings.specs.Ring.{wide, sideAt, segments, holdsHeight}
 use Rattle.rings.specs.Checks.{ringChecked}
 use Rattle.stripes_find.specs.declared.StripesListed.the-variants.{StripesFound, StripesUnlisted}
-use Rattle.stripes_find.specs.Search.{Reading, Ending, complete, damagedAt, outside, readStripe, searched}
+use Rattle.stripes_find.specs.Search.{Reading, Ending, complete, damagedAt, outside, readStripe, searchedBy, searched}
 use Rattle.stripes_find.specs.Listing.{Outcome, refused, ended, poured, stripesListed}
 
 module _ (found : List ℕ) (ending : Ending) (out : List ℕ) where
@@ -46,14 +46,14 @@ poured-room r o o' e = go (r .ending)
     go (damagedAt p) = rw e
 
 -- ---- the ways through a search
-module _ (ring : List ℤ) (n : ℕ) (least height : Float) (stripes list : List ℕ) (y : Float) where
+module _ (ring : ℕ → Float) (n : ℕ) (least height : Float) (stripes list : List ℕ) (y : Float) where
   pub searched-outside : outside y least height ≡ true → searched ring n least height stripes list y ≡ record { found = []; ending = complete }
-  unfolding searched
+  unfolding searchedBy
   searched-outside e = rw e
 
   pub searched-within : outside y least height ≡ false
-      → searched ring n least height stripes list y ≡ readStripe n (λ i. holdsHeight (segmentAt ring i) y) least height stripes list y
-  unfolding searched
+      → searched ring n least height stripes list y ≡ readStripe n (λ i. holdsHeight (sideAt ring i) y) least height stripes list y
+  unfolding searchedBy
   searched-within e = rw e
 
 module _ (ring : List ℤ) (points : ℕ) (least height : Float) (stripes list : List ℕ) (y : Float) (out : List ℕ) where
@@ -66,6 +66,6 @@ module _ (ring : List ℤ) (points : ℕ) (least height : Float) (stripes list :
   listed-height e f = rw (e, f)
 
   pub listed-sound : ringChecked ring points ≡ Sound → finite y ≡ true
-      → stripesListed ring points least height stripes list y out ≡ poured (searched ring (segments points) least height stripes list y) out
+      → stripesListed ring points least height stripes list y out ≡ poured (searched (wide ring) (segments points) least height stripes list y) out
   unfolding stripesListed
   listed-sound e f = rw (e, f)

@@ -12,7 +12,7 @@ use Rattle.answers.specs.declared.Refusal.the-variants.{BadHeight, NoRoom, Dama
 use Rattle.room.specs.Room.{pad}
 use Rattle.rings.specs.declared.Checked.{Checked}
 use Rattle.rings.specs.declared.Checked.the-variants.{Sound, Faulty}
-use Rattle.rings.specs.Ring.{segments}
+use Rattle.rings.specs.Ring.{wide, segments}
 use Rattle.rings.specs.Checks.{ringChecked}
 use Rattle.stripes_find.specs.declared.StripesListed.{StripesListed}
 use Rattle.stripes_find.specs.declared.StripesListed.the-variants.{StripesFound, StripesUnlisted}
@@ -43,4 +43,4 @@ whenSound (Faulty why) out later = (StripesUnlisted why, out)
 unfoldable pub stripesListed : List ℤ → ℕ → Float → Float → List ℕ → List ℕ → Float → List ℕ → Outcome
 stripesListed ring points least height stripes list y out =
     whenSound (ringChecked ring points) out
-    (cond (finite y) (poured (searched ring (segments points) least height stripes list y) out) (StripesUnlisted BadHeight, out))
+    (cond (finite y) (poured (searched (wide ring) (segments points) least height stripes list y) out) (StripesUnlisted BadHeight, out))

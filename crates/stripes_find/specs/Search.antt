@@ -5,11 +5,10 @@ use mathlib.Core.List.{List, [], _∷_}
 use Prim.Native.Nat.{ℕ, _+_, _*_, _/_}
 use lib.ListN.{length, getD}
 use lib.Seq.{slice}
-use lib.IntN.{ℤ}
 use lib.Dec.{ltb, eqb}
 use lib.Ieee.{Float, binary64, eq, ne, lt, add, ofBits}
 use Rattle.room.specs.Numbers.{consIf}
-use Rattle.rings.specs.Ring.{segmentAt, holdsHeight}
+use Rattle.rings.specs.Ring.{sideAt, holdsHeight}
 use Rattle.stripes_place.specs.Stripe.{stripeOf}
 
 -- "Searching gives nothing when y is outside least to least+height, or, at height 0, when y differs from least." Comparisons with a NaN are
@@ -50,9 +49,17 @@ readStripe n meets least height stripes list y =
     (record { found = []; ending = damagedAt (length list) })
     (record { found = foundIn n meets part; ending = endIn n start part }))
 
--- in a ring with n segments: nothing is found outside, "before any damage is looked for"
-unfoldable pub searched : List ℤ → ℕ → Float → Float → List ℕ → List ℕ → Float → Reading
-searched ring n least height stripes list y =
-    cond (outside y least height)
+-- in a ring with n segments: nothing is found where y is outside of the ring's heights, "before any damage is looked for"
+unfoldable pub searchedBy : Bool → (ℕ → Float) → ℕ → Float → Float → List ℕ → List ℕ → Float → Reading
+searchedBy out ring n least height stripes list y =
+    cond out
     (record { found = []; ending = complete })
-    (readStripe n (λ i. holdsHeight (segmentAt ring i) y) least height stripes list y)
+    (readStripe n (λ i. holdsHeight (sideAt ring i) y) least height stripes list y)
+
+-- an index of whole numbers keeps the least y and the height
+abbrev pub searched : (ℕ → Float) → ℕ → Float → Float → List ℕ → List ℕ → Float → Reading
+searched ring n least height stripes list y = searchedBy (outside y least height) ring n least height stripes list y
+
+-- one of floats the greatest y too
+abbrev pub beyond : Float → Float → Float → Bool
+beyond y least top = lt y least || lt top y

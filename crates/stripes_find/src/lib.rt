@@ -4,10 +4,11 @@ use rings::Checked;
 use rings::holds_height;
 use room::zero_fill_u32;
 use stripes_place::stripe_of;
-use stripes_place::wide;
+use room::wide;
 ghost use mathlib.Core.Path.{_≡_};
 ghost use Prim.Native.Nat.{_+_, _*_, _/_, _<_, _≤_};
 ghost use lib.ListN.{length, replicate};
+ghost use Rattle.rings.specs.Ring.{wide};
 ghost use Rattle.stripes_place.specs.Stripe.{stripeOf};
 ghost use Rattle.stripes_find.specs.Search.{outside, searched};
 ghost use Rattle.stripes_find.specs.Listing.{poured, stripesListed};
@@ -71,7 +72,7 @@ fn list_run(
 ) -> StripesListed
     requires { ⌜ (n * 2 + 2 ≤ length (now ring)) × (start ≤ past) × (past ≤ length (now list)) ⌝ }
     requires { ⌜ now out ≡ replicate (length (now out)) 0 ⌝ }
-    ensures { λ r. ⌜ poured (runRead (now (ring .entry)) n (now (list .entry)) start past y) (now (out .entry)) ≡ (r, now (out .exit)) ⌝ }
+    ensures { λ r. ⌜ poured (runRead (wide (now (ring .entry))) n (now (list .entry)) start past y) (now (out .entry)) ≡ (r, now (out .exit)) ⌝ }
 {
     let mut k: usize = 0;
     let mut at = start;
@@ -108,7 +109,7 @@ fn list_sound(
     out: &mut [u32],
 ) -> StripesListed
     requires { ⌜ n * 2 + 2 ≤ length (now ring) ⌝ }
-    ensures { λ r. ⌜ poured (searched (now (ring .entry)) n least height (now (stripes .entry)) (now (list .entry)) y) (now (out .entry)) ≡ (r, now (out .exit)) ⌝ }
+    ensures { λ r. ⌜ poured (searched (wide (now (ring .entry))) n least height (now (stripes .entry)) (now (list .entry)) y) (now (out .entry)) ≡ (r, now (out .exit)) ⌝ }
 {
     zero_fill_u32(out);
     if is_outside(y, least, height) {

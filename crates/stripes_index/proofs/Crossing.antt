@@ -3,7 +3,6 @@ use Prim.Native.Nat.{ℕ, _≤_, _<_}
 use mathlib.Core.Path.{_≡_, refl, sym}
 use mathlib.Core.List.{List}
 use mathlib.Core.Bool.{Bool, true, false, _&&_, true≢false}
-use lib.IntN.{ℤ}
 use lib.Dec.{leb}
 use lib.Ieee.{Float}
 use borrow.Author.Tests.{leb-true, le-leb}
@@ -14,7 +13,7 @@ both true true h = (refl, refl)
 both true false h = absurd (true≢false (sym h))
 both false b h = absurd (true≢false (sym h))
 
-module _ (ring : List ℤ) (least height : Float) (m t i : ℕ) where
+module _ (ring : ℕ → Float) (least height : Float) (m t i : ℕ) where
   pub crosses-from : crosses ring least height m t i ≡ true → firstStripe ring least height m i ≤ t
   crosses-from h = leb-true (firstStripe ring least height m i) t (both (leb (firstStripe ring least height m i) t) (leb t (lastStripe ring least height m i)) h .0)
 

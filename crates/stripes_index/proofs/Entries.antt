@@ -7,7 +7,6 @@ use mathlib.Core.Logic.{inl, inr}
 use native.Mathlib.Omega.{arith}
 use native.Mathlib.Numerals.{add-one}
 use lib.ListN.{length, length-append}
-use lib.IntN.{ℤ}
 use lib.Dec.{leb}
 use lib.Ieee.{Float}
 use borrow.Author.Tests.{le-leb, lt-leb}
@@ -66,7 +65,7 @@ between a b (suc m) =
           ]
     ]
 
-module _ (ring : List ℤ) (least height : Float) (n m : ℕ) (some : 0 < m) (few : m < 2 ^ 64) where
+module _ (ring : ℕ → Float) (least height : Float) (n m : ℕ) (some : 0 < m) (few : m < 2 ^ 64) where
   crossed : (i : ℕ) → times (λ s. crosses ring least height m s i) m ≡ suc (lastStripe ring least height m i) - firstStripe ring least height m i
   crossed i =
       between (firstStripe ring least height m i) (lastStripe ring least height m i) m

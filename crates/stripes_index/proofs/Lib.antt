@@ -5,3 +5,4 @@ pub mod Entering
 pub mod Crossing
 pub mod Starts
 pub mod Entries
+pub mod Ends

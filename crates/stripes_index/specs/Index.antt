@@ -2,38 +2,37 @@
 use mathlib.Core.Bool.{Bool, _&&_}
 use mathlib.Core.List.{List, [], _∷_}
 use Prim.Native.Nat.{ℕ, zero, suc, _+_, _-_, _*_, max}
-use lib.ListN.{length, getD}
-use lib.IntN.{ℤ, pos}
+use lib.ListN.{length}
 use lib.Dec.{leb}
-use lib.Ieee.{Float, binary64, sub, ofInt}
+use lib.Ieee.{Float, binary64, sub}
 use Rattle.floats.specs.Values.{lesserOf, greaterOf}
 use Rattle.room.specs.Numbers.{upTo}
-use Rattle.rings.specs.Ring.{pointAt, segmentAt}
+use Rattle.rings.specs.Ring.{spotAt, sideAt}
 use Rattle.stripes_place.specs.Stripe.{stripeOf}
 use Rattle.stripes_index.specs.Joined.{joined}
 
 -- the low and the high end of segment i
-abbrev pub lowEnd : List ℤ → ℕ → Float
-lowEnd ring i = lesserOf (ofInt binary64 (segmentAt ring i .a .y)) (ofInt binary64 (segmentAt ring i .b .y))
+abbrev pub lowEnd : (ℕ → Float) → ℕ → Float
+lowEnd ring i = lesserOf (sideAt ring i .a .y) (sideAt ring i .b .y)
 
-abbrev pub highEnd : List ℤ → ℕ → Float
-highEnd ring i = greaterOf (ofInt binary64 (segmentAt ring i .a .y)) (ofInt binary64 (segmentAt ring i .b .y))
+abbrev pub highEnd : (ℕ → Float) → ℕ → Float
+highEnd ring i = greaterOf (sideAt ring i .a .y) (sideAt ring i .b .y)
 
 -- "Least y and height come from the segments": the least low end and the greatest high end of the first n, from the first point's height on
-unfoldable pub leastY : List ℤ → ℕ → Float
-leastY ring zero = ofInt binary64 (pointAt ring 0 .y)
+unfoldable pub leastY : (ℕ → Float) → ℕ → Float
+leastY ring zero = spotAt ring 0 .y
 leastY ring (suc k) = lesserOf (leastY ring k) (lowEnd ring k)
 
-unfoldable pub greatestY : List ℤ → ℕ → Float
-greatestY ring zero = ofInt binary64 (pointAt ring 0 .y)
+unfoldable pub greatestY : (ℕ → Float) → ℕ → Float
+greatestY ring zero = spotAt ring 0 .y
 greatestY ring (suc k) = greaterOf (greatestY ring k) (highEnd ring k)
 
-abbrev pub heightY : List ℤ → ℕ → Float
+abbrev pub heightY : (ℕ → Float) → ℕ → Float
 heightY ring n = sub binary64 (greatestY ring n) (leastY ring n)
 
 -- "A segment is entered in every stripe from that of its low end to that of its high end":
 -- which stripe, of so many from `least` up, each segment is entered in
-module _ (ring : List ℤ) (least height : Float) (stripes : ℕ) where
+module _ (ring : ℕ → Float) (least height : Float) (stripes : ℕ) where
   abbrev pub firstStripe : ℕ → ℕ
   firstStripe i = stripeOf (lowEnd ring i) least height stripes
 

@@ -1,12 +1,13 @@
 // A ring's stripes: the ends of its segments, how many segments cross each stripe, and where each
 // stripe's part of the list starts. The `pub` functions are for the crates above, which have checked
 // the ring.
-use stripes_place::coordinate;
+use rings::coordinate;
 use stripes_place::stripe_of;
-use stripes_place::wide;
+use room::wide;
 ghost use mathlib.Core.Path.{_≡_};
 ghost use Prim.Native.Nat.{ℕ, _+_, _*_, _<_, _≤_, max};
 ghost use lib.ListN.{length, replicate};
+ghost use Rattle.rings.specs.Ring.{wide};
 ghost use Rattle.room.specs.Room.{pad};
 ghost use Rattle.stripes_index.specs.Index.{lowEnd, highEnd, leastY, greatestY, crosses, entriesOf, fullestOf};
 ghost use Rattle.stripes_index.specs.Inner.States.{pairs, none, secondAt, sumTo, mostTo, countsAt, tableAt};
@@ -20,7 +21,7 @@ pub struct Totals {
 // The lower end's height of segment i. For the crates above, which have checked the ring.
 pub fn low_end(ring: &[i32], i: usize) -> f64
     requires { ⌜ i * 2 + 3 < length (now ring) ⌝ }
-    ensures { λ r. ⌜ r ≡ lowEnd (now (ring .entry)) i ⌝ }
+    ensures { λ r. ⌜ r ≡ lowEnd (wide (now (ring .entry))) i ⌝ }
 {
     floats::lesser(coordinate(ring, i * 2 + 1), coordinate(ring, i * 2 + 3))
 }
@@ -28,7 +29,7 @@ pub fn low_end(ring: &[i32], i: usize) -> f64
 // The higher end's. For the same.
 pub fn high_end(ring: &[i32], i: usize) -> f64
     requires { ⌜ i * 2 + 3 < length (now ring) ⌝ }
-    ensures { λ r. ⌜ r ≡ highEnd (now (ring .entry)) i ⌝ }
+    ensures { λ r. ⌜ r ≡ highEnd (wide (now (ring .entry))) i ⌝ }
 {
     floats::greater(coordinate(ring, i * 2 + 1), coordinate(ring, i * 2 + 3))
 }
@@ -36,7 +37,7 @@ pub fn high_end(ring: &[i32], i: usize) -> f64
 // The least height that n segments reach. For the crates above, which have checked the ring.
 pub fn least_y(ring: &[i32], n: usize) -> f64
     requires { ⌜ n * 2 + 2 ≤ length (now ring) ⌝ }
-    ensures { λ r. ⌜ r ≡ leastY (now (ring .entry)) n ⌝ }
+    ensures { λ r. ⌜ r ≡ leastY (wide (now (ring .entry))) n ⌝ }
 {
     let mut least = coordinate(ring, 1);
     let mut i: usize = 0;
@@ -50,7 +51,7 @@ pub fn least_y(ring: &[i32], n: usize) -> f64
 // The greatest. For the same.
 pub fn greatest_y(ring: &[i32], n: usize) -> f64
     requires { ⌜ n * 2 + 2 ≤ length (now ring) ⌝ }
-    ensures { λ r. ⌜ r ≡ greatestY (now (ring .entry)) n ⌝ }
+    ensures { λ r. ⌜ r ≡ greatestY (wide (now (ring .entry))) n ⌝ }
 {
     let mut greatest = coordinate(ring, 1);
     let mut i: usize = 0;
@@ -64,8 +65,8 @@ pub fn greatest_y(ring: &[i32], n: usize) -> f64
 // Counts segment i in each stripe that it crosses. The segments before it are counted.
 fn count_segment(ring: &[i32], least: f64, height: f64, m: usize, i: usize, stripes: &mut [u32])
     requires { ⌜ (i < 4096) × (i * 2 + 3 < length (now ring)) × (0 < m) × (m * 2 ≤ length (now stripes)) ⌝ }
-    requires { ⌜ now stripes ≡ pad (length (now stripes)) (countsAt (crosses (now ring) least height m) m i) ⌝ }
-    ensures { λ _. ⌜ now (stripes .exit) ≡ pad (length (now (stripes .entry))) (countsAt (crosses (now (ring .entry)) least height m) m (i + 1)) ⌝ }
+    requires { ⌜ now stripes ≡ pad (length (now stripes)) (countsAt (crosses (wide (now ring)) least height m) m i) ⌝ }
+    ensures { λ _. ⌜ now (stripes .exit) ≡ pad (length (now (stripes .entry))) (countsAt (crosses (wide (now (ring .entry))) least height m) m (i + 1)) ⌝ }
 {
     let last = stripe_of(high_end(ring, i), least, height, m);
     let mut s = stripe_of(low_end(ring, i), least, height, m);
@@ -79,7 +80,7 @@ fn count_segment(ring: &[i32], least: f64, height: f64, m: usize, i: usize, stri
 fn count_all(ring: &[i32], n: usize, least: f64, height: f64, m: usize, stripes: &mut [u32])
     requires { ⌜ (n ≤ 4096) × (n * 2 + 2 ≤ length (now ring)) × (0 < m) × (m * 2 ≤ length (now stripes)) ⌝ }
     requires { ⌜ now stripes ≡ replicate (length (now stripes)) 0 ⌝ }
-    ensures { λ _. ⌜ now (stripes .exit) ≡ pad (length (now (stripes .entry))) (countsAt (crosses (now (ring .entry)) least height m) m n) ⌝ }
+    ensures { λ _. ⌜ now (stripes .exit) ≡ pad (length (now (stripes .entry))) (countsAt (crosses (wide (now (ring .entry))) least height m) m n) ⌝ }
 {
     let mut i: usize = 0;
     while i < n {
@@ -124,8 +125,8 @@ pub fn prepare(
 ) -> Totals
     requires { ⌜ (n ≤ 4096) × (n * 2 + 2 ≤ length (now ring)) × (0 < m) × (m ≤ 65536) × (m * 2 ≤ length (now stripes)) ⌝ }
     requires { ⌜ now stripes ≡ replicate (length (now stripes)) 0 ⌝ }
-    ensures { λ r. ⌜ (r .entries ≡ entriesOf (crosses (now (ring .entry)) least height m) n m) × (r .fullest ≡ fullestOf (crosses (now (ring .entry)) least height m) n m) ⌝ }
-    ensures { λ _. ⌜ now (stripes .exit) ≡ pad (length (now (stripes .entry))) (tableAt (crosses (now (ring .entry)) least height m) m n 0) ⌝ }
+    ensures { λ r. ⌜ (r .entries ≡ entriesOf (crosses (wide (now (ring .entry))) least height m) n m) × (r .fullest ≡ fullestOf (crosses (wide (now (ring .entry))) least height m) n m) ⌝ }
+    ensures { λ _. ⌜ now (stripes .exit) ≡ pad (length (now (stripes .entry))) (tableAt (crosses (wide (now (ring .entry))) least height m) m n 0) ⌝ }
 {
     count_all(ring, n, least, height, m, stripes);
     place_starts(stripes, m)

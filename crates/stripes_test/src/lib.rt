@@ -6,7 +6,7 @@ use cast_test::Seen;
 use cast_test::step;
 use rings::Checked;
 use stripes_find::Part;
-use stripes_place::wide;
+use room::wide;
 ghost use mathlib.Core.Path.{_≡_};
 ghost use Prim.Native.Nat.{_+_, _*_, _<_, _≤_};
 ghost use lib.ListN.{length};

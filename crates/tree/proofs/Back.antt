@@ -6,7 +6,6 @@ use mathlib.Core.Bool.{Bool, true, false, cond}
 use mathlib.Core.Logic.{⊎-elim}
 use native.Mathlib.Omega.{arith}
 use lib.ListN.{length, getD, take, length-append}
-use lib.IntN.{ℤ}
 use lib.Ieee.{Float}
 use borrow.Author.Tests.{lt-ltb, le-ltb, eq-eqb, ne-eqb}
 use Rattle.room.specs.Room.{Holds}
@@ -15,7 +14,7 @@ use Rattle.room.proofs.Holds.{holds-take, holds-front, holds-rest, holds-first}
 use Rattle.room.proofs.Cases.{eq-or}
 use Rattle.boxes.specs.declared.Rect.{Rect}
 use Rattle.boxes.specs.Quads.{quadBounds}
-use Rattle.rings.specs.Ring.{segmentAt, holdsHeight}
+use Rattle.rings.specs.Ring.{sideAt, holdsHeight}
 use Rattle.varint.specs.Leb128.{encode}
 use Rattle.varint.proofs.Back.{holds-reads}
 use Rattle.tree.specs.Tree.{Tree, leaf, split, those, forEachQuadrant, differences, ownBytes, sized, packed, inOrder}
@@ -32,9 +31,9 @@ pub after-then : (x : Found) (f : ℕ → Found) (xs ys : List ℕ) (p p′ : �
 unfolding after
 after-then x f xs ys p p′ e g = rw e (ap (λ (r : Found). (xs ++ r .0, r .1)) g)
 
-module _ (bytes : List ℕ) (ring : List ℤ) (segments : ℕ) (y : Float) where
+module _ (bytes : List ℕ) (ring : ℕ → Float) (segments : ℕ) (y : Float) where
   abbrev pub holdsAt : ℕ → Bool
-  holdsAt i = holdsHeight (segmentAt ring i) y
+  holdsAt i = holdsHeight (sideAt ring i) y
 
   -- a number that stands at p is read there
   field-back : (end p x : ℕ) (f : ℕ → ℕ → Found) → Small x → Holds bytes p (encode x) → p + length (encode x) ≤ end

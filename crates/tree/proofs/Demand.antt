@@ -7,7 +7,6 @@ use mathlib.Core.Bool.{Bool, true, false, cond, _&&_}
 use native.Mathlib.Omega.{arith}
 use native.Mathlib.Nat.{mul-le-mul-left, zero-add}
 use lib.ListN.{length, length-append}
-use lib.IntN.{ℤ}
 use lib.Ieee.{Float}
 use lib.Dec.{ltb}
 use borrow.Author.Tests.{ltb-true, ltb-false}
@@ -17,7 +16,7 @@ use Rattle.room.proofs.UpTo.{upTo-length}
 use Rattle.room.proofs.Count.{count-upTo, count-upTo-past}
 use Rattle.boxes.specs.declared.Rect.{Rect}
 use Rattle.boxes.specs.Quads.{quadBounds}
-use Rattle.rings.specs.Ring.{segmentAt, segments, holdsHeight, meeting}
+use Rattle.rings.specs.Ring.{sideAt, segments, holdsHeight, meeting}
 use Rattle.tree.specs.Tree.{Tree, leaf, split, those, goesTo, choice, stayers, goers, unlessEmpty, grown, ownBytes, packed, inOrder, ringBox, treeOf, maxDepth, allSegments}
 use Rattle.tree.specs.Search.{Found, End, ends, fails, upto, meetsHeight, node, searched}
 use Rattle.tree.proofs.AnyOrder.{same-length}
@@ -25,7 +24,7 @@ use Rattle.tree.specs.All.{All}
 use Rattle.tree.proofs.Lists.{Rising, all-map, all-those, all-kept, rising-those, those-none, those-length, count-those, those-keep, all-keep, rising-keep}
 use Rattle.tree.proofs.Share.{kidOf, grown-cases, count-grown, all-grown}
 use Rattle.tree.proofs.Size.{Small, perSegment, packed-size}
-use Rattle.tree.proofs.Order.{Inside, missed, inside-quad, inside-ring}
+use Rattle.tree.proofs.Order.{Inside, Numbered, missed, inside-quad, inside-ring}
 use Rattle.tree.proofs.Back.{holdsAt, Own, ReadsAs, Kid, leaf-back, split-back}
 
 -- a node has bytes
@@ -37,12 +36,12 @@ split-some : (xs : List ℕ) (f : ℕ → Tree) → 0 < length (packed (split xs
 unfolding packed
 split-some xs f = rw length-append (omega arith)
 
-pub packed-some : (ring : List ℤ) (left : ℕ) (box : Rect) (xs : List ℕ) → 0 < length (packed (grown ring left box xs))
+pub packed-some : (ring : ℕ → Float) (left : ℕ) (box : Rect) (xs : List ℕ) → 0 < length (packed (grown ring left box xs))
 unfolding grown
 packed-some ring zero box xs = leaf-some xs
 packed-some ring (suc left) box xs = grown-cases (λ t. 0 < length (packed t)) ring left box xs (leaf-some xs) (λ h. split-some _ _)
 
-module _ (bytes : List ℕ) (ring : List ℤ) (segments : ℕ) (y : Float) where
+module _ (bytes : List ℕ) (ring : ℕ → Float) (segments : ℕ) (y : Float) where
   -- what arrives at a node
   pub record Arriving (left : ℕ) (box : Rect) (xs : List ℕ) : Type 0 where
     pub few : segments ≤ 2 ^ 64
@@ -86,7 +85,7 @@ module _ (bytes : List ℕ) (ring : List ℤ) (segments : ℕ) (y : Float) where
         nothing = λ z. absurd (let s = packed-some ring left box (x ∷ ys) in omega arith);
         reads = λ m z. r;
         misses = λ m. those-none (holdsAt bytes ring segments y) (inOrder (grown ring left box (x ∷ ys)))
-            (all-grown (λ i. holdsHeight (segmentAt ring i) y ≡ false) ring left box (x ∷ ys) (all-map (Inside ring box) (λ i. holdsHeight (segmentAt ring i) y ≡ false) (x ∷ ys) (λ i p. missed ring box y i m p) (a .inside)));
+            (all-grown (λ i. holdsHeight (sideAt ring i) y ≡ false) ring left box (x ∷ ys) (all-map (Inside ring box) (λ i. holdsHeight (sideAt ring i) y ≡ false) (x ∷ ys) (λ i p. missed ring box y i m p) (a .inside)));
       }
 
   pub node-back : (left : ℕ) (box : Rect) (xs : List ℕ) → Arriving left box xs → ReadsAs bytes ring segments y (node bytes ring segments y left) box (grown ring left box xs)
@@ -99,9 +98,9 @@ module _ (bytes : List ℕ) (ring : List ℤ) (segments : ℕ) (y : Float) where
       (λ q. kid-back left (quadBounds box q) (goers ring box q xs) (goes left box xs q a) (node-back left (quadBounds box q) (goers ring box q xs) (goes left box xs q a))) h refl)
 
 -- ---- the whole tree
-module _ (ring : List ℤ) (points : ℕ) (y : Float) where
+module _ (ring : ℕ → Float) (points : ℕ) (y : Float) where
   abbrev holdsY : ℕ → Bool
-  holdsY i = holdsHeight (segmentAt ring i) y
+  holdsY i = holdsHeight (sideAt ring i) y
 
   -- the search of the bytes of the ring's tree
   abbrev pub treeSearch : Found
@@ -112,7 +111,7 @@ abbrev pub Whole : End → Type 0
 Whole (ends p) = Unit
 Whole (fails why) = ⊥
 
-module _ (ring : List ℤ) (points : ℕ) (y : Float) (few : points ≤ 4097) where
+module _ (ring : ℕ → Float) (points : ℕ) (y : Float) (few : points ≤ 4097) (plain : Numbered ring points) where
   root : Arriving (packed (treeOf ring points)) ring (segments points) y maxDepth (ringBox ring points) (allSegments points)
   unfolding upTo
   root =
@@ -121,7 +120,7 @@ module _ (ring : List ℤ) (points : ℕ) (y : Float) (few : points ≤ 4097) wh
         bound = (let l = upTo-length (λ i. true) (points - 1) 0 in omega arith);
         within = all-map (λ x. x < 0 + (points - 1 - 0)) (λ x. x < points - 1) (allSegments points) (λ x h. omega arith) (all-keep (λ i. true) (points - 1 - 0) 0);
         rising = rising-keep (λ i. true) (points - 1 - 0) 0 0 (omega arith);
-        inside = all-map (λ x. x < 0 + (points - 1 - 0)) (Inside ring (ringBox ring points)) (allSegments points) (λ i h. inside-ring ring points i (omega arith)) (all-keep (λ i. true) (points - 1 - 0) 0);
+        inside = all-map (λ x. x < 0 + (points - 1 - 0)) (Inside ring (ringBox ring points)) (allSegments points) (λ i h. inside-ring ring points i plain (omega arith)) (all-keep (λ i. true) (points - 1 - 0) 0);
       }
 
   whole-node : node (packed (treeOf ring points)) ring (segments points) y maxDepth (ringBox ring points) 0 (length (packed (treeOf ring points)))
@@ -173,7 +172,7 @@ module _ (ring : List ℤ) (points : ℕ) (y : Float) (few : points ≤ 4097) wh
   pub tree-lists-length : length (treeSearch ring points y .0) ≡ length (meeting ring points y)
   tree-lists-length = same-length (treeSearch ring points y .0) (meeting ring points y) tree-lists
 
-  meeting-once : (k : ℕ) → count k (meeting ring points y) ≡ bit (ltb k (segments points) && holdsHeight (segmentAt ring k) y)
+  meeting-once : (k : ℕ) → count k (meeting ring points y) ≡ bit (ltb k (segments points) && holdsHeight (sideAt ring k) y)
   unfolding meeting
   meeting-once k = go (ltb k (segments points)) refl
     where
@@ -182,5 +181,5 @@ module _ (ring : List ℤ) (points : ℕ) (y : Float) (few : points ≤ 4097) wh
       go false e = count-upTo-past (holdsY ring points y) k (segments points) 0 (ltb-false k (segments points) e)
 
   -- So the search lists each segment of the ring whose own closed height range holds y exactly once, and no other number.
-  pub tree-lists-once : (k : ℕ) → count k (treeSearch ring points y .0) ≡ bit (ltb k (segments points) && holdsHeight (segmentAt ring k) y)
+  pub tree-lists-once : (k : ℕ) → count k (treeSearch ring points y .0) ≡ bit (ltb k (segments points) && holdsHeight (sideAt ring k) y)
   tree-lists-once k = tree-lists k ∙ meeting-once k

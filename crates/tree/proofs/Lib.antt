@@ -4,6 +4,7 @@ pub mod Lists
 pub mod Share
 pub mod Size
 pub mod Order
+pub mod Searchable
 pub mod Back
 pub mod Demand
 pub mod Words

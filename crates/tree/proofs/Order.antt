@@ -1,29 +1,25 @@
 -- A segment that goes to a quadrant lies in the quadrant's box, so where a box misses a height no segment below it holds it. Assumes nothing.
 use Prim.Native.Nat.{ℕ, zero, suc, _+_, _-_, _*_, _/_, _%_, _^_, _≤_, _<_, compare}
 use mathlib.Core.Path.{_≡_, refl, sym, ap, subst, _∙_}
-use mathlib.Core.List.{List}
 use mathlib.Core.Bool.{Bool, true, false, cond, not, _&&_, _||_, true≢false}
 use mathlib.Core.Logic.{_⊎_, ⊎-elim}
 use native.Mathlib.Omega.{arith}
 use lib.Dec.{T, ltb}
 use borrow.Author.Tests.{eqb-true}
 use Rattle.room.proofs.Cases.{lt-or}
-use lib.ListN.{getD}
 use lib.IntN.{ℤ, pos, negsuc}
 use lib.Ieee.{Float, inf, Format, binary64, prec, emax, low as low-of, odd, units, size, nearest, round, ofInt, lt, le, isNan}
-use Rattle.floats.proofs.Order.{le-left, le-right, lt-is-not-le, lt-le, lt-not-le, le-refl, le-trans, lt-le-trans, le-lt-trans}
+use Rattle.floats.specs.Values.{lesserOf, greaterOf}
+use Rattle.floats.proofs.Values.{lesser-le, le-greater, lesser-either, greater-either, between}
+use Rattle.floats.proofs.Order.{lt-le, lt-not-le, le-refl, le-trans, lt-le-trans, le-lt-trans}
 use Rattle.boxes.specs.declared.Rect.{Rect}
-use Rattle.boxes.specs.Segments.{rectOf, lesser, greater}
+use Rattle.boxes.specs.Segments.{boxOf}
 use Rattle.boxes.specs.Quads.{quadrant, quadBounds, midX, midY}
-use Rattle.rings.specs.Ring.{pointAt, segmentAt, holdsHeight}
-use Rattle.tree.specs.Tree.{goesTo, choice, least, greatest, spotAt, ringBox}
+use Rattle.rings.specs.Ring.{spotAt, sideAt, holdsHeight}
+use Rattle.tree.specs.Tree.{goesTo, choice, least, greatest, ringBox}
 use Rattle.tree.specs.Search.{meetsHeight}
 
 -- a test that holds, or does not
-is-true : (b : Bool) → T b → b ≡ true
-is-true true t = refl
-is-true false t = absurd t
-
 not-true : (b : Bool) → (T b → ⊥) → b ≡ false
 not-true true f = absurd (f tt)
 not-true false f = refl
@@ -31,65 +27,20 @@ not-true false f = refl
 said : {b : Bool} → b ≡ true → T b
 said e = rw e tt
 
--- what is not below is at least as great
-not-lt : (x y : Float) → isNan x ≡ false → isNan y ≡ false → lt x y ≡ false → T (le y x)
-not-lt x y p q e = go (le y x) refl
-  where
-    go : (b : Bool) → le y x ≡ b → T (le y x)
-    go true h = said h
-    go false h = absurd (true≢false (sym (ap not h) ∙ sym (lt-is-not-le x y p q) ∙ e))
+-- ---- the height range of a segment's box
+abbrev low : (ℕ → Float) → ℕ → Float
+low ring i = boxOf (sideAt ring i) .min .y
 
-module _ (P : Float → Type 0) (x y : Float) where
-  pub lesser-either : P x → P y → P (lesser x y)
-  lesser-either p q = go (lt x y)
-    where
-      go : (b : Bool) → P (cond b x y)
-      go true = p
-      go false = q
-
-  pub greater-either : P x → P y → P (greater x y)
-  greater-either p q = go (lt x y)
-    where
-      go : (b : Bool) → P (cond b y x)
-      go true = q
-      go false = p
-
--- ---- a height that a segment holds lies between its box's
-spans : (a b y : Float) → T (le a y && le y b || le b y && le y a) → T (le (lesser a b) y) × T (le y (greater a b))
-spans a b y h = either (le a y) (le y b) (le b y) (le y a) refl refl refl refl h
-  where
-    up : T (le a y) → T (le y b) → (t : Bool) → lt a b ≡ t → T (le (cond t a b) y) × T (le y (cond t b a))
-    up p q true e = (p, q)
-    up p q false e =
-        let ba : T (le b a) = not-lt a b (le-left a y p) (le-right y b q) e in
-        (le-trans b a y ba p, le-trans y b a q ba)
-
-    down : T (le b y) → T (le y a) → (t : Bool) → lt a b ≡ t → T (le (cond t a b) y) × T (le y (cond t b a))
-    down p q true e = absurd (lt-not-le a b (said e) (le-trans b y a p q))
-    down p q false e = (p, q)
-
-    either : (k l m n : Bool) → le a y ≡ k → le y b ≡ l → le b y ≡ m → le y a ≡ n → T (k && l || m && n) → T (le (lesser a b) y) × T (le y (greater a b))
-    either true true m n p q r s t = up (said p) (said q) (lt a b) refl
-    either true false true true p q r s t = down (said r) (said s) (lt a b) refl
-    either true false true false p q r s t = absurd t
-    either true false false n p q r s t = absurd t
-    either false l true true p q r s t = down (said r) (said s) (lt a b) refl
-    either false l true false p q r s t = absurd t
-    either false l false n p q r s t = absurd t
-
-abbrev low : List ℤ → ℕ → Float
-low ring i = rectOf (segmentAt ring i) .min .y
-
-abbrev high : List ℤ → ℕ → Float
-high ring i = rectOf (segmentAt ring i) .max .y
+abbrev high : (ℕ → Float) → ℕ → Float
+high ring i = boxOf (sideAt ring i) .max .y
 
 -- the segment's heights lie in the box's
-abbrev pub Inside : List ℤ → Rect → ℕ → Type 0
+abbrev pub Inside : (ℕ → Float) → Rect → ℕ → Type 0
 Inside ring box i = (T (lt (low ring i) (box .min .y)) → ⊥) × (T (lt (box .max .y) (high ring i)) → ⊥)
 
 -- a box that misses a height holds no segment that holds it
-pub missed : (ring : List ℤ) (box : Rect) (y : Float) (i : ℕ) → meetsHeight box y ≡ false → Inside ring box i → holdsHeight (segmentAt ring i) y ≡ false
-missed ring box y i m inside = not-true (holdsHeight (segmentAt ring i) y) (λ h. go (spans _ _ y h) (lt y (box .min .y)) (lt (box .max .y) y) refl refl m)
+pub missed : (ring : ℕ → Float) (box : Rect) (y : Float) (i : ℕ) → meetsHeight box y ≡ false → Inside ring box i → holdsHeight (sideAt ring i) y ≡ false
+missed ring box y i m inside = not-true (holdsHeight (sideAt ring i) y) (λ h. go (between _ _ y h) (lt y (box .min .y)) (lt (box .max .y) y) refl refl m)
   where
     go : T (le (low ring i) y) × T (le y (high ring i)) → (a b : Bool) → lt y (box .min .y) ≡ a → lt (box .max .y) y ≡ b → not (a || b) ≡ false → ⊥
     go s true b p q r = inside .0 (le-lt-trans (low ring i) y (box .min .y) (s .0) (said p))
@@ -120,9 +71,9 @@ not-lt-said true e t = true≢false (sym e)
 not-lt-said false e t = t
 
 -- a segment that goes to a quadrant lies in the quadrant's box
-module _ (ring : List ℤ) (box : Rect) (i : ℕ) where
+module _ (ring : ℕ → Float) (box : Rect) (i : ℕ) where
   abbrev seg : Rect
-  seg = rectOf (segmentAt ring i)
+  seg = boxOf (sideAt ring i)
 
   north : (q : ℕ) → q ≤ 1 → goesTo q (choice ring box i) ≡ true → T (lt (low ring i) (midY box)) → ⊥
   north q l h =
@@ -164,55 +115,51 @@ round-plain f s num den =
     let u = den * 2 ^ k in
     units-plain f s (nearest (n / u) (compare (n % u * 2) u)) k
 
-whole-plain : (z : ℤ) → isNan (ofInt binary64 z) ≡ false
+pub whole-plain : (z : ℤ) → isNan (ofInt binary64 z) ≡ false
 unfolding ofInt
 whole-plain (pos n) = round-plain binary64 false n 1
 whole-plain (negsuc n) = round-plain binary64 true (suc n) 1
 
 -- ---- the ring's box
-module _ (f : ℕ → Float) (plain : (k : ℕ) → isNan (f k) ≡ false) where
-  least-plain : (n : ℕ) → isNan (least f n) ≡ false
+module _ (f : ℕ → Float) (top : ℕ) (plain : (k : ℕ) → k ≤ top → isNan (f k) ≡ false) where
+  least-plain : (n : ℕ) → n ≤ top → isNan (least f n) ≡ false
   unfolding least
-  least-plain zero = plain 0
-  least-plain (suc n) = lesser-either (λ z. isNan z ≡ false) (least f n) (f (suc n)) (least-plain n) (plain (suc n))
+  least-plain zero u = plain 0 (omega arith)
+  least-plain (suc n) u = lesser-either (λ z. isNan z ≡ false) (least f n) (f (suc n)) (least-plain n (omega arith)) (plain (suc n) u)
 
-  least-le : (n k : ℕ) → k ≤ n → T (le (least f n) (f k))
+  least-le : (n k : ℕ) → n ≤ top → k ≤ n → T (le (least f n) (f k))
   unfolding least
-  least-le zero k h = let e : k ≡ 0 = omega arith in rw e (le-refl (f 0) (plain 0))
-  least-le (suc n) k h =
-      ⊎-elim (λ l. le-trans _ _ _ (under .0) (least-le n k (omega arith))) (λ l. let e : k ≡ suc n = omega arith in rw e (under .1)) (lt-or k (suc n))
+  least-le zero k u h = let e : k ≡ 0 = omega arith in rw e (le-refl (f 0) (plain 0 (omega arith)))
+  least-le (suc n) k u h =
+      ⊎-elim (λ l. le-trans _ _ _ (under .0) (least-le n k (omega arith) (omega arith))) (λ l. let e : k ≡ suc n = omega arith in rw e (under .1)) (lt-or k (suc n))
     where
-      pick : (t : Bool) → lt (least f n) (f (suc n)) ≡ t → T (le (cond t (least f n) (f (suc n))) (least f n)) × T (le (cond t (least f n) (f (suc n))) (f (suc n)))
-      pick true e = (le-refl (least f n) (least-plain n), lt-le (least f n) (f (suc n)) (said e))
-      pick false e = (not-lt (least f n) (f (suc n)) (least-plain n) (plain (suc n)) e, le-refl (f (suc n)) (plain (suc n)))
+      under : T (le (lesserOf (least f n) (f (suc n))) (least f n)) × T (le (lesserOf (least f n) (f (suc n))) (f (suc n)))
+      under = lesser-le (least f n) (f (suc n)) (least-plain n (omega arith)) (plain (suc n) u)
 
-      under : T (le (lesser (least f n) (f (suc n))) (least f n)) × T (le (lesser (least f n) (f (suc n))) (f (suc n)))
-      under = pick (lt (least f n) (f (suc n))) refl
-
-  greatest-plain : (n : ℕ) → isNan (greatest f n) ≡ false
+  greatest-plain : (n : ℕ) → n ≤ top → isNan (greatest f n) ≡ false
   unfolding greatest
-  greatest-plain zero = plain 0
-  greatest-plain (suc n) = greater-either (λ z. isNan z ≡ false) (greatest f n) (f (suc n)) (greatest-plain n) (plain (suc n))
+  greatest-plain zero u = plain 0 (omega arith)
+  greatest-plain (suc n) u = greater-either (λ z. isNan z ≡ false) (greatest f n) (f (suc n)) (greatest-plain n (omega arith)) (plain (suc n) u)
 
-  le-greatest : (n k : ℕ) → k ≤ n → T (le (f k) (greatest f n))
+  le-greatest : (n k : ℕ) → n ≤ top → k ≤ n → T (le (f k) (greatest f n))
   unfolding greatest
-  le-greatest zero k h = let e : k ≡ 0 = omega arith in rw e (le-refl (f 0) (plain 0))
-  le-greatest (suc n) k h =
-      ⊎-elim (λ l. le-trans _ _ _ (le-greatest n k (omega arith)) (over .0)) (λ l. let e : k ≡ suc n = omega arith in rw e (over .1)) (lt-or k (suc n))
+  le-greatest zero k u h = let e : k ≡ 0 = omega arith in rw e (le-refl (f 0) (plain 0 (omega arith)))
+  le-greatest (suc n) k u h =
+      ⊎-elim (λ l. le-trans _ _ _ (le-greatest n k (omega arith) (omega arith)) (over .0)) (λ l. let e : k ≡ suc n = omega arith in rw e (over .1)) (lt-or k (suc n))
     where
-      pick : (t : Bool) → lt (greatest f n) (f (suc n)) ≡ t → T (le (greatest f n) (cond t (f (suc n)) (greatest f n))) × T (le (f (suc n)) (cond t (f (suc n)) (greatest f n)))
-      pick true e = (lt-le (greatest f n) (f (suc n)) (said e), le-refl (f (suc n)) (plain (suc n)))
-      pick false e = (le-refl (greatest f n) (greatest-plain n), not-lt (greatest f n) (f (suc n)) (greatest-plain n) (plain (suc n)) e)
+      over : T (le (greatest f n) (greaterOf (greatest f n) (f (suc n)))) × T (le (f (suc n)) (greaterOf (greatest f n) (f (suc n))))
+      over = le-greater (greatest f n) (f (suc n)) (greatest-plain n (omega arith)) (plain (suc n) u)
 
-      over : T (le (greatest f n) (greater (greatest f n) (f (suc n)))) × T (le (f (suc n)) (greater (greatest f n) (f (suc n))))
-      over = pick (lt (greatest f n) (f (suc n))) refl
+-- no height of the ring's points is a NaN
+abbrev pub Numbered : (ℕ → Float) → ℕ → Type 0
+Numbered ring points = (k : ℕ) → k ≤ points - 1 → isNan (spotAt ring k .y) ≡ false
 
 -- each segment of a ring lies in the ring's box
-pub inside-ring : (ring : List ℤ) (points i : ℕ) → i + 1 < points → Inside ring (ringBox ring points) i
+pub inside-ring : (ring : ℕ → Float) (points i : ℕ) → Numbered ring points → i + 1 < points → Inside ring (ringBox ring points) i
 unfolding ringBox
-inside-ring ring points i h = (
-  λ t. lt-not-le (low ring i) (least f n) t (lesser-either (λ z. T (le (least f n) z)) _ _ (under i (omega arith)) (subst (λ (k : ℕ). T (le (least f n) (ofInt binary64 (getD ring k (pos 0))))) next (under (i + 1) (omega arith)))),
-  λ t. lt-not-le (greatest f n) (high ring i) t (greater-either (λ z. T (le z (greatest f n))) _ _ (over i (omega arith)) (subst (λ (k : ℕ). T (le (ofInt binary64 (getD ring k (pos 0))) (greatest f n))) next (over (i + 1) (omega arith)))),
+inside-ring ring points i plain h = (
+  λ t. lt-not-le (low ring i) (least f n) t (lesser-either (λ z. T (le (least f n) z)) _ _ (under i (omega arith)) (subst (λ (k : ℕ). T (le (least f n) (ring k))) next (under (i + 1) (omega arith)))),
+  λ t. lt-not-le (greatest f n) (high ring i) t (greater-either (λ z. T (le z (greatest f n))) _ _ (over i (omega arith)) (subst (λ (k : ℕ). T (le (ring k) (greatest f n))) next (over (i + 1) (omega arith)))),
 )
   where
     f : ℕ → Float
@@ -225,7 +172,7 @@ inside-ring ring points i h = (
     next = omega arith
 
     under : (k : ℕ) → k ≤ points - 1 → T (le (least (λ j. spotAt ring j .y) (points - 1)) (spotAt ring k .y))
-    under k l = least-le (λ j. spotAt ring j .y) (λ j. whole-plain (pointAt ring j .y)) (points - 1) k l
+    under k l = least-le (λ j. spotAt ring j .y) (points - 1) plain (points - 1) k (omega arith) l
 
     over : (k : ℕ) → k ≤ points - 1 → T (le (spotAt ring k .y) (greatest (λ j. spotAt ring j .y) (points - 1)))
-    over k l = le-greatest (λ j. spotAt ring j .y) (λ j. whole-plain (pointAt ring j .y)) (points - 1) k l
+    over k l = le-greatest (λ j. spotAt ring j .y) (points - 1) plain (points - 1) k (omega arith) l

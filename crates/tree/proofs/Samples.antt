@@ -5,12 +5,14 @@ use mathlib.Core.List.{List, [], _∷_}
 use native.Mathlib.Omega.{arith}
 use lib.ListN.{length}
 use lib.IntN.{ℤ, pos, negsuc}
-use lib.Ieee.{binary64, ofInt, round, odd, units, size, span, climb, lt, le}
+use lib.Ieee.{Float, binary64, ofInt, round, odd, units, size, span, climb, lt, le, ne}
 use borrow.Author.Tests.{le-leb, lt-leb}
+use Rattle.floats.specs.Values as values
 use Rattle.boxes.specs.declared.Rect.{Rect}
 use Rattle.room.specs.Numbers.{keep, upTo}
 use Rattle.varint.specs.Leb128.{encode, encodeIn, decode, size as bytesOf}
 use Rattle.varint.specs.Uvarint.{readUvarint}
+use Rattle.rings.specs.Ring.{wide}
 use Rattle.tree.specs.Tree.{maxItems, leaf, split, stayers, grown, least, greatest, ringBox, treeOf, differences, ownBytes, packed}
 use Rattle.tree.proofs.Share.{kidOf}
 use Rattle.tree.specs.Search.{Found, ends, after, ownFrom, own, afterOwn, nodeWith, node, searched}
@@ -22,28 +24,28 @@ abbrev pub squareBytes : List ℕ
 squareBytes = 0x04 ∷ 0x00 ∷ 0x01 ∷ 0x01 ∷ 0x01 ∷ 0x00 ∷ []
 
 -- S packs to 04 00 01 01 01 00
-pub square-packs : packed (treeOf square 5) ≡ squareBytes
+pub square-packs : packed (treeOf (wide square) 5) ≡ squareBytes
 unfolding packed ownBytes treeOf grown upTo keep differences encode encodeIn
 square-packs = refl
 
 abbrev at : ℤ → Found
-at y = searched squareBytes square 4 (ofInt binary64 y) (ringBox square 5)
+at y = searched squareBytes (wide square) 4 (ofInt binary64 y) (ringBox (wide square) 5)
 
 -- lists in S: y 0 gives 0, 1, 3; y 10 gives 1, 2, 3; y -1 none
 pub square-0 : at (pos 0) ≡ (0 ∷ 1 ∷ 3 ∷ [], ends 6)
-unfolding searched node nodeWith own ownFrom afterOwn after ringBox least greatest readUvarint decode bytesOf ofInt round odd units size span climb lt le
+unfolding searched node nodeWith own ownFrom afterOwn after ringBox least greatest readUvarint decode bytesOf ofInt round odd units size span climb lt le ne values.lesserOf values.greaterOf
 square-0 = refl
 
 pub square-10 : at (pos 10) ≡ (1 ∷ 2 ∷ 3 ∷ [], ends 6)
-unfolding searched node nodeWith own ownFrom afterOwn after ringBox least greatest readUvarint decode bytesOf ofInt round odd units size span climb lt le
+unfolding searched node nodeWith own ownFrom afterOwn after ringBox least greatest readUvarint decode bytesOf ofInt round odd units size span climb lt le ne values.lesserOf values.greaterOf
 square-10 = refl
 
 pub square-below : at (negsuc 0) ≡ ([], ends 0)
-unfolding searched ringBox least greatest ofInt round odd units size span climb lt le
+unfolding searched ringBox least greatest ofInt round odd units size span climb lt le ne values.lesserOf values.greaterOf
 square-below = refl
 
 -- 12 segments make a leaf; 13 split
-module _ (ring : List ℤ) (left : ℕ) (box : Rect) (xs : List ℕ) where
+module _ (ring : ℕ → Float) (left : ℕ) (box : Rect) (xs : List ℕ) where
   pub twelve : length xs ≤ 12 → grown ring (suc left) box xs ≡ leaf xs
   unfolding grown
   twelve h = rw (le-leb (length xs) maxItems (omega arith))

@@ -6,16 +6,15 @@ use mathlib.Core.Bool.{Bool, true, false, cond, not}
 use native.Mathlib.Omega.{arith}
 use lib.Dec.{leb}
 use lib.ListN.{length}
-use lib.IntN.{ℤ}
-use lib.Ieee.{lt}
+use lib.Ieee.{Float, lt}
 use borrow.Author.Tests.{leb-false}
 use Rattle.room.specs.Numbers.{consIf, bit, count}
 use Rattle.room.proofs.Count.{count-append}
 use Rattle.boxes.specs.declared.Rect.{Rect}
 use Rattle.boxes.specs.declared.Chosen.{Chosen}
 use Rattle.boxes.specs.Quads.{quadrant, quadBounds, midX, midY}
-use Rattle.boxes.specs.Segments.{rectOf}
-use Rattle.rings.specs.Ring.{segmentAt}
+use Rattle.boxes.specs.Segments.{boxOf}
+use Rattle.rings.specs.Ring.{sideAt}
 use Rattle.tree.specs.Tree.{maxItems, Tree, leaf, split, those, goesTo, isStayer, choice, stayers, goers, unlessEmpty, grown, inOrder}
 use Rattle.tree.specs.All.{All}
 use Rattle.tree.proofs.Lists.{all-append, all-kept, count-those}
@@ -40,13 +39,13 @@ more t x xs = go (t x)
     go false = omega arith
 
 -- what a node shares out
-module _ (ring : List ℤ) (box : Rect) where
+module _ (ring : ℕ → Float) (box : Rect) where
   abbrev way : (Chosen → Bool) → ℕ → Bool
   way t i = t (choice ring box i)
 
   one-choice : (i : ℕ) → bit (way isStayer i) + (bit (way (goesTo 0) i) + bit (way (goesTo 1) i) + bit (way (goesTo 2) i) + bit (way (goesTo 3) i)) ≡ 1
   one-choice i =
-      let r = rectOf (segmentAt ring i) in
+      let r = boxOf (sideAt ring i) in
       one-way (lt (r .max .x) (midX box)) (not (lt (r .min .x) (midX box))) (lt (r .max .y) (midY box)) (not (lt (r .min .y) (midY box)))
 
   pub count-shares : (k : ℕ) (xs : List ℕ)
@@ -64,11 +63,11 @@ module _ (ring : List ℤ) (box : Rect) where
       (omega (arith, one-choice x, length-shares xs))
 
 -- quadrant q of a node that splits
-abbrev pub kidOf : List ℤ → ℕ → Rect → List ℕ → ℕ → Tree
+abbrev pub kidOf : (ℕ → Float) → ℕ → Rect → List ℕ → ℕ → Tree
 kidOf ring left box xs q = unlessEmpty (goers ring box q xs) (grown ring left (quadBounds box q) (goers ring box q xs))
 
 -- what is said of the leaf and of the split is said of what grows
-pub grown-cases : (P : Tree → Type 0) (ring : List ℤ) (left : ℕ) (box : Rect) (xs : List ℕ)
+pub grown-cases : (P : Tree → Type 0) (ring : ℕ → Float) (left : ℕ) (box : Rect) (xs : List ℕ)
     → P (leaf xs)
     → (maxItems < length xs → P (split (stayers ring box xs) (kidOf ring left box xs)))
     → P (grown ring (suc left) box xs)
@@ -86,12 +85,12 @@ unfolding inOrder
 kid-count k [] t h = refl
 kid-count k (y ∷ ys) t h = h
 
-count-split : (k : ℕ) (ring : List ℤ) (box : Rect) (xs : List ℕ) (f : ℕ → Tree) → ((q : ℕ) → count k (inOrder (f q)) ≡ count k (goers ring box q xs))
+count-split : (k : ℕ) (ring : ℕ → Float) (box : Rect) (xs : List ℕ) (f : ℕ → Tree) → ((q : ℕ) → count k (inOrder (f q)) ≡ count k (goers ring box q xs))
     → count k (inOrder (split (stayers ring box xs) f)) ≡ count k xs
 unfolding inOrder
 count-split k ring box xs f h = simp count-append (omega (arith, h 0, h 1, h 2, h 3, count-shares ring box k xs))
 
-pub count-grown : (k : ℕ) (ring : List ℤ) (left : ℕ) (box : Rect) (xs : List ℕ) → count k (inOrder (grown ring left box xs)) ≡ count k xs
+pub count-grown : (k : ℕ) (ring : ℕ → Float) (left : ℕ) (box : Rect) (xs : List ℕ) → count k (inOrder (grown ring left box xs)) ≡ count k xs
 unfolding inOrder grown
 count-grown k ring zero box xs = refl
 count-grown k ring (suc left) box xs =
@@ -108,7 +107,7 @@ all-split : (P : ℕ → Type 0) (xs : List ℕ) (f : ℕ → Tree) → All P xs
 unfolding inOrder
 all-split P xs f a h = all-append P _ _ a (all-append P _ _ (h 0) (all-append P _ _ (h 1) (all-append P _ _ (h 2) (h 3))))
 
-pub all-grown : (P : ℕ → Type 0) (ring : List ℤ) (left : ℕ) (box : Rect) (xs : List ℕ) → All P xs → All P (inOrder (grown ring left box xs))
+pub all-grown : (P : ℕ → Type 0) (ring : ℕ → Float) (left : ℕ) (box : Rect) (xs : List ℕ) → All P xs → All P (inOrder (grown ring left box xs))
 unfolding inOrder grown
 all-grown P ring zero box xs a = a
 all-grown P ring (suc left) box xs a =

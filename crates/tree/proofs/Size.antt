@@ -5,7 +5,7 @@ use mathlib.Core.List.{List, [], _∷_}
 use native.Mathlib.Omega.{arith}
 use native.Mathlib.Nat.{mul-le-mul-left, mul-le-mul-right}
 use lib.ListN.{length, length-append}
-use lib.IntN.{ℤ}
+use lib.Ieee.{Float}
 use Rattle.boxes.specs.declared.Rect.{Rect}
 use Rattle.boxes.specs.Quads.{quadBounds}
 use Rattle.varint.specs.Leb128.{encode}
@@ -50,7 +50,7 @@ unfolding packed
 split-size xs f = simp length-append (omega arith)
 
 -- what the kids of a node take, if each takes at most k for a segment
-kids-size : (k : ℕ) (ring : List ℤ) (box : Rect) (xs : List ℕ) (f : ℕ → Tree) → 10 ≤ k → 0 < length xs → All Small xs → Small ((k + 51) * length xs)
+kids-size : (k : ℕ) (ring : ℕ → Float) (box : Rect) (xs : List ℕ) (f : ℕ → Tree) → 10 ≤ k → 0 < length xs → All Small xs → Small ((k + 51) * length xs)
     → ((q : ℕ) → length (packed (f q)) ≤ k * length (goers ring box q xs))
     → length (packed (split (stayers ring box xs) f)) ≤ (k + 51) * length xs
 kids-size k ring box xs f t h a s b =
@@ -75,7 +75,7 @@ unfolding packed
 kid-size k [] t h = omega arith
 kid-size k (y ∷ ys) t h = h (omega arith)
 
-pub packed-size : (ring : List ℤ) (left : ℕ) (box : Rect) (xs : List ℕ) → 0 < length xs → All Small xs → Small (perSegment left * length xs)
+pub packed-size : (ring : ℕ → Float) (left : ℕ) (box : Rect) (xs : List ℕ) → 0 < length xs → All Small xs → Small (perSegment left * length xs)
     → length (packed (grown ring left box xs)) ≤ perSegment left * length xs
 unfolding grown
 packed-size ring zero box xs h a s = let l = leaf-size xs h (omega arith) a in omega arith

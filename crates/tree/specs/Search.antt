@@ -4,11 +4,10 @@ use mathlib.Core.List.{List, [], _++_}
 use mathlib.Core.Bool.{Bool, true, false, not, cond, _||_}
 use lib.Dec.{ltb, eqb}
 use lib.ListN.{length, getD, take}
-use lib.IntN.{ℤ}
 use lib.Ieee.{Float, lt}
 use Rattle.boxes.specs.declared.Rect.{Rect}
 use Rattle.boxes.specs.Quads.{quadBounds}
-use Rattle.rings.specs.Ring.{segmentAt, holdsHeight}
+use Rattle.rings.specs.Ring.{sideAt, holdsHeight}
 use Rattle.room.specs.Numbers.{consIf}
 use Rattle.answers.specs.declared.Refusal.{Refusal}
 use Rattle.answers.specs.declared.Refusal.the-variants.{Damaged}
@@ -51,14 +50,14 @@ got (Unread why) f = ([], fails why)
 abbrev pub closed : ℕ → ℕ → Found
 closed end p = cond (eqb p end) (upto p) (damaged p)
 
-module _ (bytes : List ℕ) (ring : List ℤ) (segments : ℕ) (y : Float) where
+module _ (bytes : List ℕ) (ring : ℕ → Float) (segments : ℕ) (y : Float) where
   -- a number at p: "A field must end inside its node's part"
   abbrev pub field : ℕ → ℕ → (ℕ → ℕ → Found) → Found
   field end p f = got (readUvarint 64 (take end bytes) p) f
 
   -- a segment is listed where its own closed height range holds y
   abbrev pub listed : ℕ → List ℕ
-  listed i = consIf (holdsHeight (segmentAt ring i) y) i []
+  listed i = consIf (holdsHeight (sideAt ring i) y) i []
 
   -- n own segments, each told by its difference from the last: "a segment number not below the count" is damage
   unfoldable pub ownFrom : ℕ → ℕ → ℕ → ℕ → Found

@@ -4,15 +4,14 @@ use mathlib.Core.List.{List, [], _∷_, _++_}
 use mathlib.Core.Bool.{Bool, true, false, cond}
 use lib.Dec.{leb, eqb}
 use lib.ListN.{length}
-use lib.IntN.{ℤ}
 use lib.Ieee.{Float}
-use Rattle.boxes.specs.declared.Point.{Point}
+use Rattle.floats.specs.Values.{lesserOf, greaterOf}
 use Rattle.boxes.specs.declared.Rect.{Rect}
 use Rattle.boxes.specs.declared.Chosen.{Chosen}
 use Rattle.boxes.specs.declared.Chosen.the-variants.{Quadrant, Stays}
 use Rattle.boxes.specs.Quads.{chosen, quadBounds}
-use Rattle.boxes.specs.Segments.{rectOf, pointOf, lesser, greater}
-use Rattle.rings.specs.Ring.{pointAt, segmentAt, segments, numbers}
+use Rattle.boxes.specs.Segments.{boxOf}
+use Rattle.rings.specs.Ring.{spotAt, sideAt, segments, numbers}
 use Rattle.room.specs.Numbers.{consIf}
 use Rattle.varint.specs.Leb128.{encode}
 use Rattle.tree.specs.declared.QuadTree.{QuadTree}
@@ -44,14 +43,14 @@ isStayer (Quadrant k) = false
 isStayer Stays = true
 
 -- where segment i of a ring goes from a node with this box
-abbrev pub choice : List ℤ → Rect → ℕ → Chosen
-choice ring box i = chosen box (rectOf (segmentAt ring i))
+abbrev pub choice : (ℕ → Float) → Rect → ℕ → Chosen
+choice ring box i = chosen box (boxOf (sideAt ring i))
 
 -- "stayers are its own"
-abbrev pub stayers : List ℤ → Rect → List ℕ → List ℕ
+abbrev pub stayers : (ℕ → Float) → Rect → List ℕ → List ℕ
 stayers ring box xs = those (λ i. isStayer (choice ring box i)) xs
 
-abbrev pub goers : List ℤ → Rect → ℕ → List ℕ → List ℕ
+abbrev pub goers : (ℕ → Float) → Rect → ℕ → List ℕ → List ℕ
 goers ring box q xs = those (λ i. goesTo q (choice ring box i)) xs
 
 -- "each non-empty quadrant is a child"
@@ -61,7 +60,7 @@ unlessEmpty (x ∷ xs) t = t
 
 -- A node with this box, this many levels below it, and these segments arriving.
 -- "A node at depth 64, or with at most 12 segments arriving, is a leaf. Otherwise it splits"
-unfoldable pub grown : List ℤ → ℕ → Rect → List ℕ → Tree
+unfoldable pub grown : (ℕ → Float) → ℕ → Rect → List ℕ → Tree
 grown ring zero box xs = leaf xs
 grown ring (suc left) box xs =
     cond (leb (length xs) maxItems) (leaf xs)
@@ -70,18 +69,14 @@ grown ring (suc left) box xs =
 -- the least and the greatest of f 0 .. f n
 unfoldable pub least : (ℕ → Float) → ℕ → Float
 least f zero = f 0
-least f (suc n) = lesser (least f n) (f (suc n))
+least f (suc n) = lesserOf (least f n) (f (suc n))
 
 unfoldable pub greatest : (ℕ → Float) → ℕ → Float
 greatest f zero = f 0
-greatest f (suc n) = greater (greatest f n) (f (suc n))
-
--- point i of a ring as floats
-abbrev pub spotAt : List ℤ → ℕ → Point
-spotAt ring i = pointOf (pointAt ring i)
+greatest f (suc n) = greaterOf (greatest f n) (f (suc n))
 
 -- the ring's box: the least and the greatest x and y of its points
-unfoldable pub ringBox : List ℤ → ℕ → Rect
+unfoldable pub ringBox : (ℕ → Float) → ℕ → Rect
 ringBox ring points =
     let last = points - 1 in
     record {
@@ -94,7 +89,7 @@ abbrev pub allSegments : ℕ → List ℕ
 allSegments points = numbers (segments points)
 
 -- the tree of a ring: all its segments arrive at the root, whose box is the ring's
-unfoldable pub treeOf : List ℤ → ℕ → Tree
+unfoldable pub treeOf : (ℕ → Float) → ℕ → Tree
 treeOf ring points = grown ring maxDepth (ringBox ring points) (allSegments points)
 
 -- ---- bytes
@@ -130,7 +125,7 @@ nodes (leaf xs) = 1
 nodes (split xs kids) = 1 + (nodes (kids 0) + nodes (kids 1) + nodes (kids 2) + nodes (kids 3))
 
 -- "six work numbers a node, root included, and one a segment"
-abbrev pub workNumbers : List ℤ → ℕ → ℕ
+abbrev pub workNumbers : (ℕ → Float) → ℕ → ℕ
 workNumbers ring points = 6 * nodes (treeOf ring points) + segments points
 
 -- node order: "Own segments first, then quadrants", "0 to 3"
@@ -140,5 +135,5 @@ inOrder (leaf xs) = xs
 inOrder (split xs kids) = xs ++ forEachQuadrant (λ q. inOrder (kids q))
 
 -- what a tree is read and built by
-abbrev pub quadTreeOf : List ℤ → ℕ → QuadTree
+abbrev pub quadTreeOf : (ℕ → Float) → ℕ → QuadTree
 quadTreeOf ring points = record { bounds = ringBox ring points; segments = segments points }

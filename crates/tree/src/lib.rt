@@ -1,12 +1,13 @@
 // The packed tree of a ring: its limits, and the box that its root has.
 use boxes::Point;
 use boxes::Rect;
+use floats::greater;
+use floats::lesser;
+use rings::coordinate;
 ghost use mathlib.Core.Path.{_≡_};
 ghost use Prim.Native.Nat.{_+_, _*_, _<_, _≤_};
-ghost use lib.ListN.{length, getD};
-ghost use lib.IntN.{pos};
-ghost use lib.Ieee.{binary64, ofInt};
-ghost use Rattle.boxes.specs.Segments.{lesser, greater};
+ghost use lib.ListN.{length};
+ghost use Rattle.rings.specs.Ring.{wide};
 ghost use Rattle.tree.specs.Tree.{least, greatest, quadTreeOf};
 
 // What a tree is read and built by, besides its bytes and its ring: the ring's box, and how many segments the ring has.
@@ -15,49 +16,29 @@ pub struct QuadTree {
     pub segments: usize,
 }
 
-// Coordinate i as a float, which holds every i32.
-fn coordinate(coords: &[i32], i: usize) -> f64
-    requires { ⌜ i < length (now coords) ⌝ }
-    ensures { λ r. ⌜ r ≡ ofInt binary64 (getD (now (coords .entry)) i (pos 0)) ⌝ }
-{
-    coords[i] as f64
-}
-
-fn lower(x: f64, y: f64) -> f64
-    ensures { λ r. ⌜ r ≡ lesser x y ⌝ }
-{
-    if x < y { x } else { y }
-}
-
-fn higher(x: f64, y: f64) -> f64
-    ensures { λ r. ⌜ r ≡ greater x y ⌝ }
-{
-    if x < y { y } else { x }
-}
-
 // The least of the first coordinates (offset 0) or of the second ones (offset 1), up to point `last`.
 fn least_of(coords: &[i32], offset: usize, last: usize) -> f64
     requires { ⌜ last * 2 + offset < length (now coords) ⌝ }
-    ensures { λ r. ⌜ r ≡ least (λ i. ofInt binary64 (getD (now (coords .entry)) (i * 2 + offset) (pos 0))) last ⌝ }
+    ensures { λ r. ⌜ r ≡ least (λ i. wide (now (coords .entry)) (i * 2 + offset)) last ⌝ }
 {
     let mut low = coordinate(coords, offset);
     let mut i: usize = 0;
     while i < last {
         i += 1;
-        low = lower(low, coordinate(coords, i * 2 + offset));
+        low = lesser(low, coordinate(coords, i * 2 + offset));
     }
     low
 }
 
 fn greatest_of(coords: &[i32], offset: usize, last: usize) -> f64
     requires { ⌜ last * 2 + offset < length (now coords) ⌝ }
-    ensures { λ r. ⌜ r ≡ greatest (λ i. ofInt binary64 (getD (now (coords .entry)) (i * 2 + offset) (pos 0))) last ⌝ }
+    ensures { λ r. ⌜ r ≡ greatest (λ i. wide (now (coords .entry)) (i * 2 + offset)) last ⌝ }
 {
     let mut high = coordinate(coords, offset);
     let mut i: usize = 0;
     while i < last {
         i += 1;
-        high = higher(high, coordinate(coords, i * 2 + offset));
+        high = greater(high, coordinate(coords, i * 2 + offset));
     }
     high
 }
@@ -72,7 +53,7 @@ impl QuadTree {
     // The tree of a ring. For the crates above, which have checked the ring.
     pub fn of_ring(coords: &[i32], points: usize) -> QuadTree
         requires { ⌜ (1 ≤ points) × (points * 2 ≤ length (now coords)) ⌝ }
-        ensures { λ r. ⌜ r ≡ quadTreeOf (now (coords .entry)) points ⌝ }
+        ensures { λ r. ⌜ r ≡ quadTreeOf (wide (now (coords .entry))) points ⌝ }
     {
         let last = points - 1;
         let min = Point {

@@ -6,9 +6,9 @@ use mathlib.Core.Bool.{Bool, true, false, cond}
 use mathlib.Core.Logic.{⊎-elim}
 use native.Mathlib.Omega.{arith}
 use lib.ListN.{length, replicate, getD, take, drop, set, drop-of-length-le, length-set, length-take, length-drop}
-use lib.IntN.{ℤ}
 use lib.Dec.{leb}
 use borrow.Author.Tests.{le-leb, lt-leb, lt-ltb, le-ltb}
+use lib.Ieee.{Float}
 use Rattle.answers.specs.declared.Refusal.{Refusal}
 use Rattle.answers.specs.declared.Refusal.the-variants.{NoRoom}
 use Rattle.room.specs.Room.{write, pad}
@@ -18,9 +18,9 @@ use Rattle.room.proofs.Write.{write-eq}
 use Rattle.room.proofs.Fill.{write-pad}
 use Rattle.room.proofs.UpTo.{upTo-yes, upTo-done}
 use Rattle.boxes.specs.declared.Rect.{Rect}
+use Rattle.rings.specs.declared.Checked.{Checked}
 use Rattle.rings.specs.declared.Checked.the-variants.{Sound, Faulty}
 use Rattle.rings.specs.Ring.{segments}
-use Rattle.rings.specs.Checks.{ringChecked}
 use Rattle.tree.specs.Tree.{Tree, maxDepth, grown, ringBox, allSegments, treeOf, packed, nodes, workNumbers}
 use Rattle.tree.specs.All.{All}
 use Rattle.tree.proofs.Lists.{all-map, all-keep}
@@ -31,7 +31,7 @@ use Rattle.tree_grow.specs.Inner.Growing.{Rooted, TreeGrew}
 use Rattle.tree_pack.specs.Inner.Packing.{nodeOf, NodeStands}
 use Rattle.tree_build.specs.declared.TreeBuilt.{TreeBuilt}
 use Rattle.tree_build.specs.declared.TreeBuilt.the-variants.{Packed, Unpacked, TreeRefused}
-use Rattle.tree_build.specs.Build.{Outcome, zeroed, treeBytes, packedIn, fromThreshold, treeBuilt}
+use Rattle.tree_build.specs.Build.{Outcome, zeroed, treeBytes, packedIn, fromThreshold, treeBuiltBy}
 use Rattle.tree_build.specs.Inner.Steps.{short, put, putGrown}
 use Rattle.tree_build.proofs.Standing.{Stood, standing}
 
@@ -71,10 +71,10 @@ numbering-done run₀ run i h s =
     let d : drop (0 + length (allUpTo (length run₀) 0)) run₀ ≡ [] = drop-of-length-le run₀ f in
     sym (sym (write-eq run₀ 0 (allUpTo (length run₀) 0) (omega arith) ∙ rw d (append-nil (allUpTo (length run₀) 0))) ∙ s .same ∙ ap (write run i) (upTo-done (λ k. true) (length run₀) i (omega arith)))
 
-pub all-readable : (ring : List ℤ) (points : ℕ) → points ≤ 4097 → points * 2 ≡ length ring → All (Readable ring) (allSegments points)
+pub all-readable : (long points : ℕ) → points ≤ 4097 → points * 2 ≡ long → All (Readable long) (allSegments points)
 unfolding upTo
-all-readable ring points few sizes =
-    all-map (λ x. x < 0 + (points - 1 - 0)) (Readable ring) (allSegments points) (λ x h. (omega arith, omega arith)) (all-keep (λ i. true) (points - 1 - 0) 0)
+all-readable long points few sizes =
+    all-map (λ x. x < 0 + (points - 1 - 0)) (Readable long) (allSegments points) (λ x h. (omega arith, omega arith)) (all-keep (λ i. true) (points - 1 - 0) 0)
 
 -- ---- the bytes where there is room for them
 module _ (bs b : List ℕ) (size : ℕ) (same : size ≡ length bs) (zeros : b ≡ replicate (length b) 0) where
@@ -100,7 +100,7 @@ ready t s rest n run′ rest′ r =
     let more = drop (6 * nodes t) rest in
     rw (r .ordered, r .recorded) (record { stands = s .stands more; size = rw (s .same more) (s .size more); bytes = rw (s .same more) refl })
 
-module _ (ring : List ℤ) (points : ℕ) (box : Rect) (eb : box ≡ ringBox ring points) (run : List ℕ) (er : run ≡ allSegments points) where
+module _ (ring : ℕ → Float) (points : ℕ) (box : Rect) (eb : box ≡ ringBox ring points) (run : List ℕ) (er : run ≡ allSegments points) where
   pub tree-is : grown ring maxDepth box run ≡ treeOf ring points
   unfolding treeOf
   tree-is = rw (eb, er) refl
@@ -122,7 +122,7 @@ module _ (ring : List ℤ) (points : ℕ) (box : Rect) (eb : box ≡ ringBox rin
         rw (le-leb (6 * nodes (treeOf ring points)) (length rest) (q .fits), grown-ready n e .bytes) refl
 
 -- ---- from the work room
-module _ (ring : List ℤ) (points : ℕ) (bytes work : List ℕ) where
+module _ (ring : ℕ → Float) (points : ℕ) (bytes work : List ℕ) where
   pub packed-short : length work < points - 1 → packedIn ring points bytes work ≡ zeroed (TreeRefused NoRoom) bytes work
   unfolding packedIn
   packed-short h = rw (lt-leb (workNumbers ring points) (length work) (omega arith))
@@ -149,11 +149,11 @@ module _ (ring : List ℤ) (points : ℕ) (bytes work : List ℕ) where
       go false = refl
 
 -- only the room's sizes count
-pub packed-room : (ring : List ℤ) (points : ℕ) (b b′ w w′ : List ℕ) → length b ≡ length b′ → length w ≡ length w′ → packedIn ring points b w ≡ packedIn ring points b′ w′
+pub packed-room : (ring : ℕ → Float) (points : ℕ) (b b′ w w′ : List ℕ) → length b ≡ length b′ → length w ≡ length w′ → packedIn ring points b w ≡ packedIn ring points b′ w′
 unfolding packedIn
 packed-room ring points b b′ w w′ e f = rw (e, f)
 
-module _ (ring : List ℤ) (points threshold : ℕ) (bytes work : List ℕ) where
+module _ (ring : ℕ → Float) (points threshold : ℕ) (bytes work : List ℕ) where
   pub from-under : points - 1 < threshold → fromThreshold ring points threshold bytes work ≡ zeroed Unpacked bytes work
   unfolding fromThreshold
   from-under h = rw (lt-ltb (segments points) threshold h)
@@ -162,20 +162,21 @@ module _ (ring : List ℤ) (points threshold : ℕ) (bytes work : List ℕ) wher
   unfolding fromThreshold
   from-reached h = rw (le-ltb (segments points) threshold h)
 
-  pub built-faulty : (why : Refusal) → ringChecked ring points ≡ Faulty why → treeBuilt ring points threshold bytes work ≡ (TreeRefused why, bytes, work)
-  unfolding treeBuilt
-  built-faulty why e = rw e
+  module _ (checked : Checked) where
+    pub built-faulty : (why : Refusal) → checked ≡ Faulty why → treeBuiltBy checked ring points threshold bytes work ≡ (TreeRefused why, bytes, work)
+    unfolding treeBuiltBy
+    built-faulty why e = rw e
 
-  pub built-sound : ringChecked ring points ≡ Sound → treeBuilt ring points threshold bytes work ≡ fromThreshold ring points threshold bytes work
-  unfolding treeBuilt
-  built-sound e = rw e
+    pub built-sound : checked ≡ Sound → treeBuiltBy checked ring points threshold bytes work ≡ fromThreshold ring points threshold bytes work
+    unfolding treeBuiltBy
+    built-sound e = rw e
 
 -- ---- lent parts
 pub rest-length : (n : ℕ) (l : List ℕ) → length (take (length l - n) (drop n l)) ≡ length l - n
 rest-length n l = simp (length-take, length-drop) (omega arith)
 
-pub readable-run : (ring : List ℤ) (points : ℕ) (run : List ℕ) → run ≡ allSegments points → points ≤ 4097 → points * 2 ≡ length ring → All (Readable ring) run
-readable-run ring points run e few sizes = rw e (all-readable ring points few sizes)
+pub readable-run : (long points : ℕ) (run : List ℕ) → run ≡ allSegments points → points ≤ 4097 → points * 2 ≡ long → All (Readable long) run
+readable-run long points run e few sizes = rw e (all-readable long points few sizes)
 
 -- the front of a room of zeros
 pub zeros-part : (k n : ℕ) → n ≤ k → length {A = ℕ} (take n (replicate k 0)) ≡ n

@@ -8,8 +8,8 @@ use native.Mathlib.Nat.{zero-add}
 use lib.Dec.{leb}
 use lib.ListN.{length, getD, length-append}
 use lib.Seq.{take-at, drop-at, take-append-seam, drop-append-seam}
-use lib.IntN.{ℤ}
 use borrow.Author.Tests.{le-leb, lt-leb, leb-true, leb-false}
+use lib.Ieee.{Float}
 use Rattle.boxes.specs.declared.Rect.{Rect}
 use Rattle.boxes.specs.Quads.{quadBounds}
 use Rattle.tree.specs.Tree.{maxItems, Tree, leaf, split, stayers, goers, unlessEmpty, grown, ownBytes, sized, forEachQuadrant, packed, nodes, inOrder}
@@ -18,7 +18,7 @@ use Rattle.tree_grow.specs.Inner.Records.{arriving, records}
 use Rattle.tree_pack.specs.Inner.Packing.{headOf, kidsOf, splitOf, nodeOf, KidsStand, NodeStands}
 
 -- ---- a tree has as many segments as arrive
-by-cases : (P : Tree → Type 0) (ring : List ℤ) (left : ℕ) (box : Rect) (xs : List ℕ)
+by-cases : (P : Tree → Type 0) (ring : ℕ → Float) (left : ℕ) (box : Rect) (xs : List ℕ)
     → (length xs ≤ maxItems → P (leaf xs))
     → (maxItems < length xs → P (split (stayers ring box xs) (kidOf ring left box xs)))
     → P (grown ring (suc left) box xs)
@@ -34,12 +34,12 @@ unfolding inOrder
 kid-length [] t h = refl
 kid-length (y ∷ ys) t h = h
 
-split-length : (ring : List ℤ) (box : Rect) (xs : List ℕ) (f : ℕ → Tree) → ((q : ℕ) → length (inOrder (f q)) ≡ length (goers ring box q xs))
+split-length : (ring : ℕ → Float) (box : Rect) (xs : List ℕ) (f : ℕ → Tree) → ((q : ℕ) → length (inOrder (f q)) ≡ length (goers ring box q xs))
     → length (inOrder (split (stayers ring box xs) f)) ≡ length xs
 unfolding inOrder
 split-length ring box xs f h = simp length-append (omega (arith, h 0, h 1, h 2, h 3, length-shares ring box xs))
 
-pub grown-length : (ring : List ℤ) (left : ℕ) (box : Rect) (xs : List ℕ) → length (inOrder (grown ring left box xs)) ≡ length xs
+pub grown-length : (ring : ℕ → Float) (left : ℕ) (box : Rect) (xs : List ℕ) → length (inOrder (grown ring left box xs)) ≡ length xs
 unfolding inOrder grown
 grown-length ring zero box xs = refl
 grown-length ring (suc left) box xs =
@@ -157,7 +157,7 @@ quad-kid left [] t s h = record { long = refl; none = λ e. (refl, refl, refl, r
 quad-kid left (y ∷ ys) t s h = record { long = s .long; none = λ e. absurd (omega (arith, e)); some = λ z. s }
 
 -- So a grown tree stands as the packer asks, and its bytes are the tree's.
-pub standing : (ring : List ℤ) (left : ℕ) (box : Rect) (xs : List ℕ) → Stood left (grown ring left box xs)
+pub standing : (ring : ℕ → Float) (left : ℕ) (box : Rect) (xs : List ℕ) → Stood left (grown ring left box xs)
 unfolding grown
 standing ring zero box xs = stood-deepest xs
 standing ring (suc left) box xs =

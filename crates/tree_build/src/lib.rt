@@ -2,6 +2,7 @@
 use answers::Refusal;
 use rings::Checked;
 use rings::Ring;
+use room::wide;
 use room::zero_fill_u32;
 use room::zero_from_u8;
 use room::zero_from_u32;
@@ -14,6 +15,7 @@ ghost use mathlib.Core.Bool.{true};
 ghost use Prim.Native.Nat.{_-_, _*_, _<_, _≤_};
 ghost use lib.ListN.{length, replicate, getD};
 ghost use Rattle.room.specs.Numbers.{upTo};
+ghost use Rattle.rings.specs.Ring.{wide};
 ghost use Rattle.tree.specs.Tree.{maxDepth, treeOf};
 ghost use Rattle.tree_pack.specs.Inner.Packing.{nodeOf, NodeStands};
 ghost use Rattle.tree_build.specs.Build.{packedIn, fromThreshold, treeBuilt};
@@ -24,12 +26,6 @@ pub enum TreeBuilt {
     Packed(usize),
     Unpacked,
     TreeRefused(Refusal),
-}
-
-fn wide(x: u32) -> usize
-    ensures { λ r. ⌜ r ≡ x ⌝ }
-{
-    x as usize
 }
 
 // The numbers of all segments, rising.
@@ -69,7 +65,7 @@ fn grow_and_pack(
 ) -> TreeBuilt
     requires { ⌜ (2 ≤ points) × (points ≤ 4097) × (points * 2 ≡ length (now ring)) × (length (now run) ≡ points - 1) ⌝ }
     requires { ⌜ now bytes ≡ replicate (length (now bytes)) 0 ⌝ }
-    ensures { λ r. ⌜ putGrown (treeOf (now (ring .entry)) points) (length (now (rest .entry))) (length (now (bytes .entry))) ≡ (r, now (bytes .exit)) ⌝ }
+    ensures { λ r. ⌜ putGrown (treeOf (wide (now (ring .entry))) points) (length (now (rest .entry))) (length (now (bytes .entry))) ≡ (r, now (bytes .exit)) ⌝ }
 {
     number_all(run);
     let tree = QuadTree::of_ring(ring, points);
@@ -86,7 +82,7 @@ fn grow_and_pack(
 fn build_checked(ring: &[i32], points: usize, bytes: &mut [u8], work: &mut [u32]) -> TreeBuilt
     requires { ⌜ (2 ≤ points) × (points ≤ 4097) × (points * 2 ≡ length (now ring)) ⌝ }
     requires { ⌜ now bytes ≡ replicate (length (now bytes)) 0 ⌝ }
-    ensures { λ r. ⌜ packedIn (now (ring .entry)) points (now (bytes .entry)) (now (work .entry)) ≡ (r, now (bytes .exit), replicate (length (now (work .entry))) 0) ⌝ }
+    ensures { λ r. ⌜ packedIn (wide (now (ring .entry))) points (now (bytes .entry)) (now (work .entry)) ≡ (r, now (bytes .exit), replicate (length (now (work .entry))) 0) ⌝ }
 {
     let n = points - 1;
     if work.len() < n {
@@ -105,7 +101,7 @@ fn build_sound(
     work: &mut [u32],
 ) -> TreeBuilt
     requires { ⌜ (2 ≤ points) × (points ≤ 4097) × (points * 2 ≡ length (now ring)) ⌝ }
-    ensures { λ r. ⌜ fromThreshold (now (ring .entry)) points threshold (now (bytes .entry)) (now (work .entry)) ≡ (r, now (bytes .exit), now (work .exit)) ⌝ }
+    ensures { λ r. ⌜ fromThreshold (wide (now (ring .entry))) points threshold (now (bytes .entry)) (now (work .entry)) ≡ (r, now (bytes .exit), now (work .exit)) ⌝ }
 {
     zero_from_u8(bytes, 0);
     if points - 1 < threshold {

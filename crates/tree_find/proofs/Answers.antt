@@ -7,7 +7,6 @@ use mathlib.Core.Logic.{⊎-elim}
 use native.Mathlib.Omega.{arith}
 use native.Mathlib.Nat.{add-zero, zero-add}
 use lib.ListN.{length, set, replicate, length-set, length-replicate}
-use lib.IntN.{ℤ}
 use lib.Ieee.{Float}
 use lib.Ieee.Scale.{finite}
 use borrow.Author.Tests.{lt-ltb, le-ltb, le-leb, lt-leb}
@@ -19,29 +18,28 @@ use Rattle.answers.specs.Answers.{said}
 use Rattle.boxes.specs.declared.Point.{Point}
 use Rattle.rays.specs.declared.RaycastResult.{RaycastResult}
 use Rattle.rays.specs.declared.RaycastResult.the-variants.{On, Inside, Neither}
-use Rattle.rays.specs.Raycast.{raycastOf}
-use Rattle.rings.specs.Ring.{segmentAt, segments}
+use Rattle.rings.specs.Ring.{segments}
 use Rattle.rings.specs.declared.Checked.{Checked}
 use Rattle.rings.specs.declared.Checked.the-variants.{Sound, Faulty}
-use Rattle.rings.specs.Checks.{ringChecked, whenSound}
+use Rattle.rings.specs.Checks.{whenSound}
 use Rattle.rings.specs.RingTest.{testFrom}
 use Rattle.room.specs.Room.{write}
 use Rattle.room.proofs.Cases.{lt-or}
 use Rattle.room.proofs.Fill.{write-pad}
-use Rattle.cast_test.specs.Test.{isOn, isInside}
+use Rattle.cast_test.specs.Test.{castAt, isOn, isInside}
 use Rattle.tree.specs.Search.{Found, End, ends, fails, searched}
 use Rattle.tree.specs.Tree.{ringBox}
 use Rattle.tree_find.specs.declared.Seen.{Seen}
 use Rattle.tree_find.specs.declared.Walk.the-variants.{Reached, Stopped}
 use Rattle.tree_find.specs.declared.TreeListed.the-variants.{TreeFound, TreeUnlisted}
 use Rattle.tree_find.specs.Inner.Walks.{Out, start, shown, listStep, testStep, testedOf, unlessOn, cast, onward, poured, pour}
-use Rattle.tree_find.specs.Find.{Outcome, answered, listWhenSound, treeListed, treeTested, verdict}
+use Rattle.tree_find.specs.Find.{Outcome, answered, listWhenSound, treeListedBy, treeTestedBy, verdict}
 
 -- what the calls do with a sound ring
-abbrev listLater : List ℤ → ℕ → List ℕ → Float → List ℕ → Outcome
+abbrev listLater : (ℕ → Float) → ℕ → List ℕ → Float → List ℕ → Outcome
 listLater ring points bytes y room = cond (finite y) (answered (length room) (searched bytes ring (segments points) y (ringBox ring points))) (TreeUnlisted BadHeight, room)
 
-abbrev testLater : List ℤ → ℕ → List ℕ → Point → Bool → Answer
+abbrev testLater : (ℕ → Float) → ℕ → List ℕ → Point → Bool → Answer
 testLater ring points bytes p edge = cond (finite (p .x) && finite (p .y)) (verdict ring p edge (searched bytes ring (segments points) (p .y) (ringBox ring points))) No
 
 -- ---- lists
@@ -95,12 +93,12 @@ pub list-stopped : (n : ℕ) (f : Found) (why : Refusal) (o : List ℕ) → pour
 list-stopped n f why o e = rw e at (list-says n f)
 
 -- ---- ring tests
-module _ (ring : List ℤ) (p : Point) (edge : Bool) where
+module _ (ring : ℕ → Float) (p : Point) (edge : Bool) where
   abbrev on : ℕ → Bool
-  on i = isOn (raycastOf (segmentAt ring i) p)
+  on i = isOn (castAt ring i p)
 
   abbrev inside : ℕ → Bool
-  inside i = isInside (raycastOf (segmentAt ring i) p)
+  inside i = isInside (castAt ring i p)
 
   abbrev final : Seen → Bool
   final s = cond (s .on) edge (s .inside)
@@ -115,7 +113,7 @@ module _ (ring : List ℤ) (p : Point) (edge : Bool) where
 
   rest-more : (x : ℕ) (xs : List ℕ) (s : Seen) → rest s (x ∷ xs) ≡ rest (testedOf ring p x s) xs
   unfolding testedOf testFrom
-  rest-more x xs s = go (s .on) (raycastOf (segmentAt ring x) p)
+  rest-more x xs s = go (s .on) (castAt ring x p)
     where
       go : (b : Bool) (r : RaycastResult)
           → cond b edge (cond (isOn r) edge (testFrom on inside edge (cond (isInside r) (not (s .inside)) (s .inside)) xs))
@@ -169,7 +167,7 @@ pub list-cleared : (n : ℕ) (f : Found) (why : Refusal) (o o′ : List ℕ) →
     → answered n f ≡ (TreeUnlisted why, o′)
 list-cleared n f why o o′ e l z = list-stopped n f why o e ∙ ap (λ (r : List ℕ). (TreeUnlisted why, r)) (ap (λ (k : ℕ). replicate k 0) (sym l) ∙ sym z)
 
-module _ (ring : List ℤ) (p : Point) (edge : Bool) (f : Found) (q : ℕ) (s : Seen) (o o′ : List ℕ) (r : Answer) (e : pour (testStep ring p) f start o ≡ (Reached q s, o′)) where
+module _ (ring : ℕ → Float) (p : Point) (edge : Bool) (f : Found) (q : ℕ) (s : Seen) (o o′ : List ℕ) (r : Answer) (e : pour (testStep ring p) f start o ≡ (Reached q s, o′)) where
   pub test-on : s .on ≡ true → r ≡ said edge → r ≡ verdict ring p edge f
   test-on h a = a ∙ ap said (sym (ap (λ (b : Bool). cond b edge (s .inside)) h)) ∙ sym (test-reached ring p edge f q s o o′ e)
 
@@ -177,35 +175,35 @@ module _ (ring : List ℤ) (p : Point) (edge : Bool) (f : Found) (q : ℕ) (s : 
   test-off h a = a ∙ ap said (sym (ap (λ (b : Bool). cond b edge (s .inside)) h)) ∙ sym (test-reached ring p edge f q s o o′ e)
 
 -- ---- the checks before a search
-module _ (ring : List ℤ) (points : ℕ) (bytes : List ℕ) where
+module _ (checked : Checked) (ring : ℕ → Float) (points : ℕ) (bytes : List ℕ) where
   module _ (y : Float) (room : List ℕ) where
-    pub listed-faulty : (why : Refusal) → ringChecked ring points ≡ Faulty why → treeListed ring points bytes y room ≡ (TreeUnlisted why, room)
-    unfolding treeListed
+    pub listed-faulty : (why : Refusal) → checked ≡ Faulty why → treeListedBy checked ring points bytes y room ≡ (TreeUnlisted why, room)
+    unfolding treeListedBy
     listed-faulty why e = ap (λ (c : Checked). listWhenSound c room (listLater ring points bytes y room)) e
 
-    module _ (e : ringChecked ring points ≡ Sound) where
-      sound-list : treeListed ring points bytes y room ≡ listLater ring points bytes y room
-      unfolding treeListed
+    module _ (e : checked ≡ Sound) where
+      sound-list : treeListedBy checked ring points bytes y room ≡ listLater ring points bytes y room
+      unfolding treeListedBy
       sound-list = ap (λ (c : Checked). listWhenSound c room (listLater ring points bytes y room)) e
 
-      pub listed-unfit : finite y ≡ false → treeListed ring points bytes y room ≡ (TreeUnlisted BadHeight, room)
+      pub listed-unfit : finite y ≡ false → treeListedBy checked ring points bytes y room ≡ (TreeUnlisted BadHeight, room)
       listed-unfit f = sound-list ∙ rw f
 
-      pub listed-sound : finite y ≡ true → treeListed ring points bytes y room ≡ answered (length room) (searched bytes ring (segments points) y (ringBox ring points))
+      pub listed-sound : finite y ≡ true → treeListedBy checked ring points bytes y room ≡ answered (length room) (searched bytes ring (segments points) y (ringBox ring points))
       listed-sound f = sound-list ∙ rw f
 
   module _ (p : Point) (edge : Bool) where
-    pub tested-faulty : (why : Refusal) → ringChecked ring points ≡ Faulty why → Refused why ≡ treeTested ring points bytes p edge
-    unfolding treeTested
+    pub tested-faulty : (why : Refusal) → checked ≡ Faulty why → Refused why ≡ treeTestedBy checked ring points bytes p edge
+    unfolding treeTestedBy
     tested-faulty why e = sym (ap (λ (c : Checked). whenSound c (testLater ring points bytes p edge)) e)
 
-    module _ (e : ringChecked ring points ≡ Sound) where
-      sound-test : treeTested ring points bytes p edge ≡ testLater ring points bytes p edge
-      unfolding treeTested
+    module _ (e : checked ≡ Sound) where
+      sound-test : treeTestedBy checked ring points bytes p edge ≡ testLater ring points bytes p edge
+      unfolding treeTestedBy
       sound-test = ap (λ (c : Checked). whenSound c (testLater ring points bytes p edge)) e
 
-      pub tested-unfit : (finite (p .x) && finite (p .y)) ≡ false → No ≡ treeTested ring points bytes p edge
+      pub tested-unfit : (finite (p .x) && finite (p .y)) ≡ false → No ≡ treeTestedBy checked ring points bytes p edge
       tested-unfit f = sym (sound-test ∙ ap (λ (b : Bool). cond b (verdict ring p edge (searched bytes ring (segments points) (p .y) (ringBox ring points))) No) f)
 
-      pub tested-sound : (finite (p .x) && finite (p .y)) ≡ true → verdict ring p edge (searched bytes ring (segments points) (p .y) (ringBox ring points)) ≡ treeTested ring points bytes p edge
+      pub tested-sound : (finite (p .x) && finite (p .y)) ≡ true → verdict ring p edge (searched bytes ring (segments points) (p .y) (ringBox ring points)) ≡ treeTestedBy checked ring points bytes p edge
       tested-sound f = sym (sound-test ∙ ap (λ (b : Bool). cond b (verdict ring p edge (searched bytes ring (segments points) (p .y) (ringBox ring points))) No) f)

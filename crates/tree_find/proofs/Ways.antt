@@ -8,17 +8,15 @@ use native.Mathlib.Nat.{not-suc-le-zero}
 use native.Mathlib.Numerals.{sub-one}
 use lib.Dec.{eqb, leb}
 use lib.ListN.{length, getD, take, drop, length-take, length-drop}
-use lib.IntN.{ℤ}
 use lib.Ieee.{Float}
 use borrow.Author.Tests.{lt-ltb, le-ltb, leb-true, eq-eqb, ne-eqb}
 use Rattle.answers.specs.declared.Refusal.{Refusal}
 use Rattle.answers.specs.declared.Refusal.the-variants.{NoRoom, Damaged}
 use Rattle.boxes.specs.declared.Point.{Point}
 use Rattle.rays.specs.declared.RaycastResult.{RaycastResult}
-use Rattle.rays.specs.Raycast.{raycastOf}
 use Rattle.boxes.specs.declared.Rect.{Rect}
 use Rattle.boxes.specs.Quads.{quadBounds}
-use Rattle.rings.specs.Ring.{segmentAt, holdsHeight}
+use Rattle.rings.specs.Ring.{sideAt, holdsHeight}
 use Rattle.varint.specs.declared.ReadUvarint.{ReadUvarint}
 use Rattle.varint.specs.declared.ReadUvarint.the-variants.{Value, Unread}
 use Rattle.varint.specs.Leb128.{decode, size}
@@ -26,21 +24,22 @@ use Rattle.varint.specs.Uvarint.{most, readUvarint}
 use Rattle.varint.proofs.Leb128.{size-some}
 use Rattle.room.specs.Numbers.{consIf}
 use Rattle.tree.specs.Search.{Found, ends, upto, damaged, after, closed, listed, meetsHeight, ownFrom, own, child, children, afterOwn, bySplit, nodeWith, node, searched}
+use Rattle.cast_test.specs.Test.{castAt}
 use Rattle.tree_find.specs.declared.Seen.{Seen}
 use Rattle.tree_find.specs.declared.Taken.the-variants.{Kept, Overfull}
 use Rattle.tree_find.specs.declared.Walk.the-variants.{Reached, Stopped}
 use Rattle.tree_find.specs.Inner.Walks.{Step, Out, cast, unlessOn, testedOf, stepIf, onward, poured, pour, then, finishOf, below, childrenFrom, childrenTo}
 use Rattle.tree_find.proofs.Pour.{pour-after}
 
-module _ (step : Step) (bytes : List ℕ) (ring : List ℤ) (segments : ℕ) (y : Float) where
+module _ (step : Step) (bytes : List ℕ) (ring : ℕ → Float) (segments : ℕ) (y : Float) where
   abbrev reads : ℕ → ℕ → ReadUvarint
   reads end p = readUvarint 64 (take end bytes) p
 
   -- one number that is found or passed over, then what is read from the next place on
   listed-then : (x next : ℕ) (f : ℕ → Found) (s : Seen) (o : List ℕ)
-      → pour step (after (listed bytes ring segments y x, ends next) f) s o ≡ onward (stepIf (holdsHeight (segmentAt ring x) y) step x s o) (λ s′ o′. pour step (f next) s′ o′)
+      → pour step (after (listed bytes ring segments y x, ends next) f) s o ≡ onward (stepIf (holdsHeight (sideAt ring x) y) step x s o) (λ s′ o′. pour step (f next) s′ o′)
   unfolding after poured onward
-  listed-then x next f s o = go (holdsHeight (segmentAt ring x) y)
+  listed-then x next f s o = go (holdsHeight (sideAt ring x) y)
     where
       go : (b : Bool) → pour step (after (consIf b x [], ends next) f) s o ≡ onward (stepIf b step x s o) (λ s′ o′. pour step (f next) s′ o′)
       go true = refl
@@ -66,17 +65,17 @@ module _ (step : Step) (bytes : List ℕ) (ring : List ℤ) (segments : ℕ) (y 
 
       own-next : (n : ℕ) → 0 < n → last + d < segments
           → pour step (ownFrom bytes ring segments y end n last p) s o
-          ≡ onward (stepIf (holdsHeight (segmentAt ring (last + d)) y) step (last + d) s o) (λ s′ o′. pour step (ownFrom bytes ring segments y end (n - 1) (last + d) q) s′ o′)
+          ≡ onward (stepIf (holdsHeight (sideAt ring (last + d)) y) step (last + d) s o) (λ s′ o′. pour step (ownFrom bytes ring segments y end (n - 1) (last + d) q) s′ o′)
       unfolding ownFrom
       own-next zero h b = absurd (not-suc-le-zero h)
       own-next (suc n) h b = rw (e, lt-ltb (last + d) segments b, sub-one) (listed-then (last + d) q (ownFrom bytes ring segments y end n (last + d)) s o)
 
-      pub own-more : (n : ℕ) (s′ : Seen) (o′ : List ℕ) → 0 < n → last + d < segments → stepIf (holdsHeight (segmentAt ring (last + d)) y) step (last + d) s o ≡ (Kept s′, o′)
+      pub own-more : (n : ℕ) (s′ : Seen) (o′ : List ℕ) → 0 < n → last + d < segments → stepIf (holdsHeight (sideAt ring (last + d)) y) step (last + d) s o ≡ (Kept s′, o′)
           → pour step (ownFrom bytes ring segments y end n last p) s o ≡ pour step (ownFrom bytes ring segments y end (n - 1) (last + d) q) s′ o′
       unfolding onward
       own-more n s′ o′ h b k = own-next n h b ∙ rw k
 
-      pub own-full : (n : ℕ) (o′ : List ℕ) → 0 < n → last + d < segments → stepIf (holdsHeight (segmentAt ring (last + d)) y) step (last + d) s o ≡ (Overfull, o′)
+      pub own-full : (n : ℕ) (o′ : List ℕ) → 0 < n → last + d < segments → stepIf (holdsHeight (sideAt ring (last + d)) y) step (last + d) s o ≡ (Overfull, o′)
           → pour step (ownFrom bytes ring segments y end n last p) s o ≡ (Stopped NoRoom, o′)
       unfolding onward
       own-full n o′ h b k = own-next n h b ∙ rw k
@@ -191,12 +190,12 @@ module _ (step : Step) (bytes : List ℕ) (ring : List ℤ) (segments : ℕ) (y 
   search-node box s o m = rw m
 
 -- ---- one segment's test
-pub tested-cast : (ring : List ℤ) (p : Point) (i : ℕ) (seen : Seen) (r r′ : RaycastResult) → seen .on ≡ false → r ≡ raycastOf (segmentAt ring i) p → r ≡ r′
+pub tested-cast : (ring : ℕ → Float) (p : Point) (i : ℕ) (seen : Seen) (r r′ : RaycastResult) → seen .on ≡ false → r ≡ castAt ring i p → r ≡ r′
     → cast r′ seen ≡ testedOf ring p i seen
 unfolding testedOf
 tested-cast ring p i seen r r′ h b c = ap (λ (z : RaycastResult). cast z seen) (sym c ∙ b) ∙ off (seen .on) h
   where
-    off : (b : Bool) → b ≡ false → cast (raycastOf (segmentAt ring i) p) seen ≡ unlessOn b seen (cast (raycastOf (segmentAt ring i) p) seen)
+    off : (b : Bool) → b ≡ false → cast (castAt ring i p) seen ≡ unlessOn b seen (cast (castAt ring i p) seen)
     off true e = absurd (true≢false e)
     off false e = refl
 
@@ -222,7 +221,7 @@ read-within bytes end p v q e = go (leb (size field) (min (most 64) (length fiel
     go false l h = absurd (never _ _ _ h)
 
 -- ---- a quadrant, as the code meets it
-module _ (step : Step) (bytes : List ℕ) (ring : List ℤ) (segments : ℕ) (y : Float) (left : ℕ) (box : Rect) (end q p : ℕ) (s : Seen) (o : List ℕ) (size from : ℕ)
+module _ (step : Step) (bytes : List ℕ) (ring : ℕ → Float) (segments : ℕ) (y : Float) (left : ℕ) (box : Rect) (end q p : ℕ) (s : Seen) (o : List ℕ) (size from : ℕ)
     (e : readUvarint 64 (take end bytes) p ≡ Value size from) (a : size ≡ 0 → ⊥) (deep : left ≡ 0 → ⊥) where
   abbrev quad : Found
   quad = child bytes ring segments y (eqb left 0) (below bytes ring segments y left) box end q p

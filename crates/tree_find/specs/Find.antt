@@ -15,7 +15,7 @@ use Rattle.answers.specs.Answers.{said}
 use Rattle.boxes.specs.declared.Point.{Point}
 use Rattle.rings.specs.declared.Checked.{Checked}
 use Rattle.rings.specs.declared.Checked.the-variants.{Sound, Faulty}
-use Rattle.rings.specs.Ring.{segments}
+use Rattle.rings.specs.Ring.{wide, segments}
 use Rattle.rings.specs.Checks.{ringChecked, whenSound}
 use Rattle.cast_test.specs.Test.{testOf}
 use Rattle.room.specs.Room.{pad}
@@ -48,19 +48,28 @@ abbrev pub listWhenSound : Checked → List ℕ → Outcome → Outcome
 listWhenSound Sound room later = later
 listWhenSound (Faulty why) room later = (TreeUnlisted why, room)
 
-unfoldable pub treeListed : List ℤ → ℕ → List ℕ → Float → List ℕ → Outcome
-treeListed ring points bytes y room =
-    listWhenSound (ringChecked ring points) room
+-- listing by the tree. What the checks found is given, since they look at the stored numbers and what follows does not
+unfoldable pub treeListedBy : Checked → (ℕ → Float) → ℕ → List ℕ → Float → List ℕ → Outcome
+treeListedBy checked ring points bytes y room =
+    listWhenSound checked room
     (cond (finite y) (answered (length room) (searched bytes ring (segments points) y (ringBox ring points))) (TreeUnlisted BadHeight, room))
+
+-- of a stored ring
+abbrev pub treeListed : List ℤ → ℕ → List ℕ → Float → List ℕ → Outcome
+treeListed ring points bytes y room = treeListedBy (ringChecked ring points) (wide ring) points bytes y room
 
 -- ---- the ring test
 -- "It answers as if the list were complete before the first segment is tested, so damage met anywhere in listing refuses"
-unfoldable pub verdict : List ℤ → Point → Bool → Found → Answer
+unfoldable pub verdict : (ℕ → Float) → Point → Bool → Found → Answer
 verdict ring p edge (xs, ends q) = said (testOf ring p edge xs)
 verdict ring p edge (xs, fails why) = Refused why
 
 -- "a query that is NaN or infinite .. is outside"
-unfoldable pub treeTested : List ℤ → ℕ → List ℕ → Point → Bool → Answer
-treeTested ring points bytes p edge =
-    whenSound (ringChecked ring points)
+unfoldable pub treeTestedBy : Checked → (ℕ → Float) → ℕ → List ℕ → Point → Bool → Answer
+treeTestedBy checked ring points bytes p edge =
+    whenSound checked
     (cond (finite (p .x) && finite (p .y)) (verdict ring p edge (searched bytes ring (segments points) (p .y) (ringBox ring points))) No)
+
+-- of a stored ring
+abbrev pub treeTested : List ℤ → ℕ → List ℕ → Point → Bool → Answer
+treeTested ring points bytes p edge = treeTestedBy (ringChecked ring points) (wide ring) points bytes p edge

@@ -18,7 +18,7 @@ ghost use mathlib.Core.Path.{_≡_};
 ghost use Prim.Native.Nat.{_+_, _*_, _<_, _≤_};
 ghost use lib.ListN.{length};
 ghost use lib.Dec.{eqb};
-ghost use Rattle.rings.specs.Ring.{segmentAt, holdsHeight};
+ghost use Rattle.rings.specs.Ring.{wide, sideAt, holdsHeight};
 ghost use Rattle.tree.specs.Search.{meetsHeight, ownFrom, own, child, node, searched};
 ghost use Rattle.tree_find.specs.Find.{answered, verdict, treeListed, treeTested};
 ghost use Rattle.tree_find.specs.Inner.Walks.{start, listStep, testedOf, stepOf, stepIf, below, childrenTo, finishOf, pour};
@@ -83,7 +83,7 @@ fn list_one(i: usize, seen: Seen, out: &mut [u32]) -> Taken
 // A found segment is tested. After "on" no segment changes anything.
 fn test_one(coords: &[i32], i: usize, p: Point, seen: Seen) -> Seen
     requires { ⌜ i * 2 + 3 < length (now coords) ⌝ }
-    ensures { λ r. ⌜ r ≡ testedOf (now (coords .entry)) p i seen ⌝ }
+    ensures { λ r. ⌜ r ≡ testedOf (wide (now (coords .entry))) p i seen ⌝ }
 {
     if seen.on {
         return seen;
@@ -110,7 +110,7 @@ fn test_one(coords: &[i32], i: usize, p: Point, seen: Seen) -> Seen
 // What comes of segment i.
 fn take(coords: &[i32], i: usize, y: f64, task: Task, seen: Seen, out: &mut [u32]) -> Taken
     requires { ⌜ (i * 2 + 3 < length (now coords)) × (i < 4294967296) ⌝ }
-    ensures { λ r. ⌜ stepIf (holdsHeight (segmentAt (now (coords .entry)) i) y) (stepOf (now (coords .entry)) task) i seen (now (out .entry)) ≡ (r, now (out .exit)) ⌝ }
+    ensures { λ r. ⌜ stepIf (holdsHeight (sideAt (wide (now (coords .entry))) i) y) (stepOf (wide (now (coords .entry))) task) i seen (now (out .entry)) ≡ (r, now (out .exit)) ⌝ }
 {
     if holds_height(coords, i, y) {
         match task {
@@ -136,7 +136,7 @@ fn own_list(
     out: &mut [u32],
 ) -> Walk
     requires { ⌜ (segments * 2 + 2 ≤ length (now coords)) × (segments < 4294967296) ⌝ }
-    ensures { λ r. ⌜ pour (stepOf (now (coords .entry)) task) (ownFrom (now (bytes .entry)) (now (coords .entry)) segments y end n 0 at) seen (now (out .entry)) ≡ (r, now (out .exit)) ⌝ }
+    ensures { λ r. ⌜ pour (stepOf (wide (now (coords .entry))) task) (ownFrom (now (bytes .entry)) (wide (now (coords .entry))) segments y end n 0 at) seen (now (out .entry)) ≡ (r, now (out .exit)) ⌝ }
 {
     let mut p = at;
     let mut last: u64 = 0;
@@ -177,7 +177,7 @@ fn own(
     out: &mut [u32],
 ) -> Walk
     requires { ⌜ (segments * 2 + 2 ≤ length (now coords)) × (segments < 4294967296) ⌝ }
-    ensures { λ r. ⌜ pour (stepOf (now (coords .entry)) task) (own (now (bytes .entry)) (now (coords .entry)) segments y end at) seen (now (out .entry)) ≡ (r, now (out .exit)) ⌝ }
+    ensures { λ r. ⌜ pour (stepOf (wide (now (coords .entry))) task) (own (now (bytes .entry)) (wide (now (coords .entry))) segments y end at) seen (now (out .entry)) ≡ (r, now (out .exit)) ⌝ }
 {
     match read_uvarint(bytes, at, end) {
         ReadUvarint::Unread(why) => Walk::Stopped(why),
@@ -214,7 +214,7 @@ fn child(
     out: &mut [u32],
 ) -> Walk
     requires { ⌜ (segments * 2 + 2 ≤ length (now coords)) × (segments < 4294967296) × (end ≤ length (now bytes)) ⌝ }
-    ensures { λ r. ⌜ pour (stepOf (now (coords .entry)) task) (child (now (bytes .entry)) (now (coords .entry)) segments y (eqb left 0) (below (now (bytes .entry)) (now (coords .entry)) segments y left) bounds end q p) seen (now (out .entry)) ≡ (r, now (out .exit)) ⌝ }
+    ensures { λ r. ⌜ pour (stepOf (wide (now (coords .entry))) task) (child (now (bytes .entry)) (wide (now (coords .entry))) segments y (eqb left 0) (below (now (bytes .entry)) (wide (now (coords .entry))) segments y left) bounds end q p) seen (now (out .entry)) ≡ (r, now (out .exit)) ⌝ }
 {
     match read_uvarint(bytes, p, end) {
         ReadUvarint::Unread(why) => Walk::Stopped(why),
@@ -265,7 +265,7 @@ fn kids(
     out: &mut [u32],
 ) -> Walk
     requires { ⌜ (segments * 2 + 2 ≤ length (now coords)) × (segments < 4294967296) × (end ≤ length (now bytes)) ⌝ }
-    ensures { λ r. ⌜ pour (stepOf (now (coords .entry)) task) (childrenTo (now (bytes .entry)) (now (coords .entry)) segments y (eqb left 0) (below (now (bytes .entry)) (now (coords .entry)) segments y left) bounds end 0 at) seen (now (out .entry)) ≡ (r, now (out .exit)) ⌝ }
+    ensures { λ r. ⌜ pour (stepOf (wide (now (coords .entry))) task) (childrenTo (now (bytes .entry)) (wide (now (coords .entry))) segments y (eqb left 0) (below (now (bytes .entry)) (wide (now (coords .entry))) segments y left) bounds end 0 at) seen (now (out .entry)) ≡ (r, now (out .exit)) ⌝ }
 {
     let mut p = at;
     let mut q: usize = 0;
@@ -311,7 +311,7 @@ fn node(
     out: &mut [u32],
 ) -> Walk
     requires { ⌜ (segments * 2 + 2 ≤ length (now coords)) × (segments < 4294967296) × (end ≤ length (now bytes)) ⌝ }
-    ensures { λ r. ⌜ pour (stepOf (now (coords .entry)) task) (node (now (bytes .entry)) (now (coords .entry)) segments y left bounds at end) seen (now (out .entry)) ≡ (r, now (out .exit)) ⌝ }
+    ensures { λ r. ⌜ pour (stepOf (wide (now (coords .entry))) task) (node (now (bytes .entry)) (wide (now (coords .entry))) segments y left bounds at end) seen (now (out .entry)) ≡ (r, now (out .exit)) ⌝ }
 {
     match own(bytes, coords, segments, y, end, at, task, seen, out) {
         Walk::Stopped(why) => Walk::Stopped(why),
@@ -357,7 +357,7 @@ fn nothing_seen() -> Seen
 // The whole search, in the box and with the segments that the tree is told to have.
 fn search(tree: QuadTree, coords: &[i32], bytes: &[u8], y: f64, task: Task, out: &mut [u32]) -> Walk
     requires { ⌜ (tree .segments * 2 + 2 ≤ length (now coords)) × (tree .segments < 4294967296) ⌝ }
-    ensures { λ r. ⌜ pour (stepOf (now (coords .entry)) task) (searched (now (bytes .entry)) (now (coords .entry)) (tree .segments) y (tree .bounds)) start (now (out .entry)) ≡ (r, now (out .exit)) ⌝ }
+    ensures { λ r. ⌜ pour (stepOf (wide (now (coords .entry))) task) (searched (now (bytes .entry)) (wide (now (coords .entry))) (tree .segments) y (tree .bounds)) start (now (out .entry)) ≡ (r, now (out .exit)) ⌝ }
 {
     let seen = nothing_seen();
     if meets_height(tree.bounds, y) {
@@ -384,7 +384,7 @@ fn search(tree: QuadTree, coords: &[i32], bytes: &[u8], y: f64, task: Task, out:
 // Lists the segments found at height y. For the crates above, which have checked the ring and the height.
 pub fn list_in(tree: QuadTree, coords: &[i32], bytes: &[u8], y: f64, out: &mut [u32]) -> TreeListed
     requires { ⌜ (tree .segments * 2 + 2 ≤ length (now coords)) × (tree .segments < 4294967296) ⌝ }
-    ensures { λ r. ⌜ answered (length (now (out .entry))) (searched (now (bytes .entry)) (now (coords .entry)) (tree .segments) y (tree .bounds)) ≡ (r, now (out .exit)) ⌝ }
+    ensures { λ r. ⌜ answered (length (now (out .entry))) (searched (now (bytes .entry)) (wide (now (coords .entry))) (tree .segments) y (tree .bounds)) ≡ (r, now (out .exit)) ⌝ }
 {
     zero_fill_u32(out);
     match search(tree, coords, bytes, y, Task::Listing, out) {
@@ -399,7 +399,7 @@ pub fn list_in(tree: QuadTree, coords: &[i32], bytes: &[u8], y: f64, out: &mut [
 // The ring test by the tree. For the crates above, which have checked the ring and the point.
 pub fn test_in(tree: QuadTree, coords: &[i32], bytes: &[u8], p: Point, edge: bool) -> Answer
     requires { ⌜ (tree .segments * 2 + 2 ≤ length (now coords)) × (tree .segments < 4294967296) ⌝ }
-    ensures { λ r. ⌜ r ≡ verdict (now (coords .entry)) p edge (searched (now (bytes .entry)) (now (coords .entry)) (tree .segments) (p .y) (tree .bounds)) ⌝ }
+    ensures { λ r. ⌜ r ≡ verdict (wide (now (coords .entry))) p edge (searched (now (bytes .entry)) (wide (now (coords .entry))) (tree .segments) (p .y) (tree .bounds)) ⌝ }
 {
     let mut none = [0u32; 1];
     match search(tree, coords, bytes, p.y, Task::Testing(p), &mut none) {

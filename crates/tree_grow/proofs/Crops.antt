@@ -4,9 +4,9 @@ use mathlib.Core.Path.{_≡_, refl, sym, ap, ap₂, subst, _∙_}
 use mathlib.Core.List.{List, [], _∷_, _++_, append-assoc}
 use native.Mathlib.Omega.{arith}
 use lib.ListN.{length, take, drop, length-append, length-drop}
-use lib.IntN.{ℤ}
 use lib.Seq.{take-at, drop-at, take-all, drop-drop}
 use borrow.Rule.Slice.PartMut.{putMid}
+use lib.Ieee.{Float}
 use Rattle.boxes.specs.declared.Rect.{Rect}
 use Rattle.boxes.specs.Quads.{quadBounds}
 use Rattle.varint.specs.Leb128.{encode}
@@ -40,18 +40,18 @@ pub same-tree : {t u : Tree} {rest : List ℕ} {r : Growth} {a b : List ℕ} →
 same-tree e g = same-crop (ap cropOf e) g
 
 -- ---- one tree
-pub none-grew : (ring : List ℤ) (left : ℕ) (box : Rect) (xs rest : List ℕ) → length xs ≡ 0 → Grew (cropOf (sprout ring left box xs)) rest (Stands 0 0) xs rest
+pub none-grew : (ring : ℕ → Float) (left : ℕ) (box : Rect) (xs rest : List ℕ) → length xs ≡ 0 → Grew (cropOf (sprout ring left box xs)) rest (Stands 0 0) xs rest
 unfolding cropOf sprout nodes packed inOrder records
 none-grew ring left box [] rest e = grew (record { counted = refl; sized = refl; ordered = refl; recorded = refl; fits = omega arith })
 none-grew ring left box (x ∷ xs) rest e = absurd (omega arith)
 
-pub sprout-some : (ring : List ℤ) (left : ℕ) (box : Rect) (xs : List ℕ) → (length xs ≡ 0 → ⊥) → sprout ring left box xs ≡ grown ring left box xs
+pub sprout-some : (ring : ℕ → Float) (left : ℕ) (box : Rect) (xs : List ℕ) → (length xs ≡ 0 → ⊥) → sprout ring left box xs ≡ grown ring left box xs
 unfolding sprout
 sprout-some ring left box [] h = absurd (h refl)
 sprout-some ring left box (x ∷ xs) h = refl
 
 -- the whole tree
-module _ (ring : List ℤ) (left : ℕ) (box : Rect) (xs : List ℕ) (some : 0 < length xs) where
+module _ (ring : ℕ → Float) (left : ℕ) (box : Rect) (xs : List ℕ) (some : 0 < length xs) where
   crop-whole : cropOf (sprout ring left box xs) ≡ cropOf (grown ring left box xs)
   crop-whole = ap cropOf (sprout-some ring left box xs (λ e. omega arith))
 
@@ -65,7 +65,7 @@ module _ (ring : List ℤ) (left : ℕ) (box : Rect) (xs : List ℕ) (some : 0 <
   unfolding cropOf
   tree-full rest h = subst (λ (c : Crop). length rest < 6 * c .count) crop-whole h
 
-pub full-at-once : (ring : List ℤ) (left : ℕ) (box : Rect) (xs rest a b : List ℕ) → (length xs ≡ 0 → ⊥) → length rest < 6
+pub full-at-once : (ring : ℕ → Float) (left : ℕ) (box : Rect) (xs rest a b : List ℕ) → (length xs ≡ 0 → ⊥) → length rest < 6
     → Grew (cropOf (sprout ring left box xs)) rest Cramped a b
 unfolding cropOf
 full-at-once ring left box xs rest a b h l =
@@ -125,7 +125,7 @@ module _ (c d : Crop) (rest p rest₁ : List ℕ) (k size : ℕ) (long : length 
         together = omega arith
 
 -- ---- the quadrants
-module _ (ring : List ℤ) (left : ℕ) (box : Rect) (s : Shares) where
+module _ (ring : ℕ → Float) (left : ℕ) (box : Rect) (s : Shares) where
   pub shares-more : (q : ℕ) → q ≤ 4 → (q ≡ 4 → ⊥) → sharesFrom s q ≡ shareOf s q + sharesFrom s (q + 1)
   unfolding sharesFrom sharesN
   shares-more q h d = let e : 4 - q ≡ suc (4 - (q + 1)) = omega arith in rw e

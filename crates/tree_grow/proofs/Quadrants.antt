@@ -4,9 +4,9 @@ use mathlib.Core.Path.{_≡_, refl, sym, ap, subst}
 use mathlib.Core.List.{List, [], _∷_, _++_}
 use native.Mathlib.Omega.{arith}
 use lib.ListN.{length, take, drop, length-drop}
-use lib.IntN.{ℤ}
 use lib.Seq.{length-take-le, length-front}
 use borrow.Rule.Slice.PartMut.{putMid}
+use lib.Ieee.{Float}
 use Rattle.boxes.specs.declared.Rect.{Rect}
 use Rattle.boxes.specs.Quads.{quadBounds}
 use Rattle.varint.specs.Leb128.{encode}
@@ -25,23 +25,23 @@ nothing [] e = refl
 nothing (x ∷ xs) e = absurd (omega arith)
 
 -- none is left
-pub from-none : (ring : List ℤ) (left : ℕ) (box : Rect) (s : Shares) (q : ℕ) (run rest : List ℕ) → q ≡ 4 → sharesFrom s q ≡ length run
+pub from-none : (ring : ℕ → Float) (left : ℕ) (box : Rect) (s : Shares) (q : ℕ) (run rest : List ℕ) → q ≡ 4 → sharesFrom s q ≡ length run
     → Grew (cropFrom ring left box s q run) rest (Stands 0 0) run rest
 from-none ring left box s q run rest e l =
     same-crop (crop-done ring left box s q run e)
     (grew (record { counted = refl; sized = refl; ordered = nothing run (omega (arith, l, shares-done ring left box s q e)); recorded = refl; fits = omega arith }))
 
 -- Quadrant q, as the code has it: n segments at the front of the run.
-pub record Next (ring : List ℤ) (left : ℕ) (box : Rect) (s : Shares) (q : ℕ) (run : List ℕ) (n : ℕ) : Type 0 where
+pub record Next (total : ℕ) (ring : ℕ → Float) (left : ℕ) (box : Rect) (s : Shares) (q : ℕ) (run : List ℕ) (n : ℕ) : Type 0 where
   pub deep : left < 64
   pub last : q ≤ 4
   pub more : q ≡ 4 → ⊥
   pub few : length run ≤ 4096
-  pub readable : All (Readable ring) run
+  pub readable : All (Readable total) run
   pub shares : sharesFrom s q ≡ length run
   pub share : n ≡ shareOf s q
 
-module _ {ring : List ℤ} {left : ℕ} {box : Rect} {s : Shares} {q : ℕ} {run : List ℕ} {n : ℕ} (h : Next ring left box s q run n) where
+module _ {total : ℕ} {ring : ℕ → Float} {left : ℕ} {box : Rect} {s : Shares} {q : ℕ} {run : List ℕ} {n : ℕ} (h : Next total ring left box s q run n) where
   pub share-within : n ≤ length run
   share-within = omega (arith, h .shares, h .share, shares-more ring left box s q (h .last) (h .more))
 
@@ -49,8 +49,8 @@ module _ {ring : List ℤ} {left : ℕ} {box : Rect} {s : Shares} {q : ℕ} {run
   share-counted = sym (length-take-le n run share-within)
 
   -- what growing the quadrant asks
-  pub quadrant-asks : (left ≤ 64) × (length (take n run) ≤ 4096) × All (Readable ring) (take n run)
-  quadrant-asks = (omega (arith, h .deep), omega (arith, h .few, share-within, share-counted), all-take (Readable ring) n run (h .readable))
+  pub quadrant-asks : (left ≤ 64) × (length (take n run) ≤ 4096) × All (Readable total) (take n run)
+  quadrant-asks = (omega (arith, h .deep), omega (arith, h .few, share-within, share-counted), all-take (Readable total) n run (h .readable))
 
   module _ (inner : Rect) (b : inner ≡ quadBounds box q) where
     abbrev here : Crop
@@ -64,16 +64,16 @@ module _ {ring : List ℤ} {left : ℕ} {box : Rect} {s : Shares} {q : ℕ} {run
     from-full l = same-crop crop-here (full (omega arith))
 
 -- The quadrant stands: p is its part of the run, and rest₁ the room for records, of which k nodes took the front.
-pub record Front (ring : List ℤ) (left : ℕ) (box : Rect) (s : Shares) (q : ℕ) (run : List ℕ) (n : ℕ) (rest p rest₁ : List ℕ) (k size : ℕ) : Type 0 where
-  pub next : Next ring left box s q run n
+pub record Front (total : ℕ) (ring : ℕ → Float) (left : ℕ) (box : Rect) (s : Shares) (q : ℕ) (run : List ℕ) (n : ℕ) (rest p rest₁ : List ℕ) (k size : ℕ) : Type 0 where
+  pub next : Next total ring left box s q run n
   pub inner : Rect
   pub inside : inner ≡ quadBounds box q
   pub long : length p ≡ length (take n run)
   pub kept : length rest₁ ≡ length rest
   pub stands : Stood (cropOf (sprout ring left inner (take n run))) rest k size p rest₁
 
-module _ {ring : List ℤ} {left : ℕ} {box : Rect} {s : Shares} {q : ℕ} {run : List ℕ} {n : ℕ} {rest p rest₁ : List ℕ} {k size : ℕ}
-    (h : Front ring left box s q run n rest p rest₁ k size) where
+module _ {total : ℕ} {ring : ℕ → Float} {left : ℕ} {box : Rect} {s : Shares} {q : ℕ} {run : List ℕ} {n : ℕ} {rest p rest₁ : List ℕ} {k size : ℕ}
+    (h : Front total ring left box s q run n rest p rest₁ k size) where
   abbrev first : Crop
   first = cropOf (sprout ring left (h .inner) (take n run))
 
@@ -100,13 +100,13 @@ module _ {ring : List ℤ} {left : ℕ} {box : Rect} {s : Shares} {q : ℕ} {run
   share-in = omega (arith, share-within (h .next), length-front run p n (h .long))
 
   -- what the quadrants behind it ask
-  pub behind-asks : (left < 64) × (q + 1 ≤ 4) × (length behind ≤ 4096) × All (Readable ring) behind × (sharesFrom s (q + 1) ≡ length behind)
+  pub behind-asks : (left < 64) × (q + 1 ≤ 4) × (length behind ≤ 4096) × All (Readable total) behind × (sharesFrom s (q + 1) ≡ length behind)
   behind-asks =
       let x = h .next in (
         x .deep,
         omega (arith, x .last, x .more),
         omega (arith, x .few, ap length behind-is, length-drop n run),
-        rw behind-is (all-drop (Readable ring) n run (x .readable)),
+        rw behind-is (all-drop (Readable total) n run (x .readable)),
         omega (arith, x .shares, x .share, shares-more ring left box s q (x .last) (x .more), ap length behind-is, length-drop n run),
       )
 
@@ -132,4 +132,4 @@ module _ {ring : List ℤ} {left : ℕ} {box : Rect} {s : Shares} {q : ℕ} {run
       pub sizes-small : len + size + size₂ < 4294967296
       sizes-small =
           let x = h .next in
-          omega (arith, from-grew .out .sized, from-size ring left box s (omega (arith, x .deep)) q run (x .few) (small-all ring run (x .readable)))
+          omega (arith, from-grew .out .sized, from-size ring left box s (omega (arith, x .deep)) q run (x .few) (small-all total run (x .readable)))

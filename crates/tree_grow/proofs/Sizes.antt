@@ -5,7 +5,7 @@ use mathlib.Core.List.{List, [], _∷_}
 use native.Mathlib.Omega.{arith}
 use native.Mathlib.Nat.{mul-le-mul-right}
 use lib.ListN.{length, take, drop, length-append, take-append-drop}
-use lib.IntN.{ℤ}
+use lib.Ieee.{Float}
 use Rattle.boxes.specs.declared.Rect.{Rect}
 use Rattle.boxes.specs.Quads.{quadBounds}
 use Rattle.tree.specs.Tree.{grown, packed}
@@ -30,10 +30,10 @@ all-drop P zero xs a = a
 all-drop P (suc n) [] a = tt
 all-drop P (suc n) (x ∷ xs) a = all-drop P n xs (a .1)
 
-pub small-all : (ring : List ℤ) (xs : List ℕ) → All (Readable ring) xs → All Small xs
-small-all ring xs a = all-map (Readable ring) Small xs (λ x r. omega (arith, r .1)) a
+pub small-all : (long : ℕ) (xs : List ℕ) → All (Readable long) xs → All Small xs
+small-all long xs a = all-map (Readable long) Small xs (λ x r. omega (arith, r .1)) a
 
-module _ (ring : List ℤ) (left : ℕ) (box : Rect) (deep : left ≤ 64) where
+module _ (ring : ℕ → Float) (left : ℕ) (box : Rect) (deep : left ≤ 64) where
   -- the most bytes for a segment that arrives
   pub grown-size : (xs : List ℕ) → 0 < length xs → length xs ≤ 4096 → All Small xs → length (packed (grown ring left box xs)) ≤ 3285 * length xs
   grown-size xs h l a =
@@ -46,7 +46,7 @@ module _ (ring : List ℤ) (left : ℕ) (box : Rect) (deep : left ≤ 64) where
   sprout-size [] l a = omega arith
   sprout-size (x ∷ xs) l a = grown-size (x ∷ xs) (omega arith) l a
 
-module _ (ring : List ℤ) (left : ℕ) (box : Rect) (s : Shares) (deep : left ≤ 64) where
+module _ (ring : ℕ → Float) (left : ℕ) (box : Rect) (s : Shares) (deep : left ≤ 64) where
   crop-size : (n q : ℕ) (run : List ℕ) → length run ≤ 4096 → All Small run → cropN ring left box s n q run .size ≤ 10 * n + 3285 * length run
   unfolding cropN beside cropOf
   crop-size zero q run l a = omega arith

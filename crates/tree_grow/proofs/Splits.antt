@@ -4,9 +4,9 @@ use mathlib.Core.Path.{_≡_, refl, sym, ap, ap₂, subst, _∙_}
 use mathlib.Core.List.{List, _∷_, _++_, append-nil}
 use native.Mathlib.Omega.{arith}
 use lib.ListN.{length, take, drop, length-append, length-drop}
-use lib.IntN.{ℤ}
 use lib.Seq.{drop-at, take-append-seam, drop-append-seam, drop-drop, length-take-le}
 use borrow.Rule.Slice.PartMut.{putMid}
+use lib.Ieee.{Float}
 use Rattle.boxes.specs.declared.Rect.{Rect}
 use Rattle.tree.specs.Tree.{maxItems, Tree, split, isStayer, goesTo, choice, stayers, goers, forEachQuadrant, grown, ownBytes, sized, packed, nodes, inOrder}
 use Rattle.tree.specs.All.{All}
@@ -44,7 +44,7 @@ module _ (xs : List ℕ) (f : ℕ → Tree) where
   unfolding records beside cropOf
   four-kept = simp append-nil
 
-module _ (ring : List ℤ) (left : ℕ) (box : Rect) (xs : List ℕ) where
+module _ (ring : ℕ → Float) (left : ℕ) (box : Rect) (xs : List ℕ) where
   abbrev gone : ℕ → List ℕ
   gone q = goers ring box q xs
 
@@ -171,15 +171,15 @@ module _ (ring : List ℤ) (left : ℕ) (box : Rect) (xs : List ℕ) where
       )
 
 -- A node that splits, as the code has it: its segments shared out, and room for its record.
-pub record Splits (ring : List ℤ) (left : ℕ) (box : Rect) (xs : List ℕ) (s : Shares) (run rest : List ℕ) : Type 0 where
+pub record Splits (total : ℕ) (ring : ℕ → Float) (left : ℕ) (box : Rect) (xs : List ℕ) (s : Shares) (run rest : List ℕ) : Type 0 where
   pub shared : sharedOut ring box xs ≡ (s, run)
   pub deep : left < 64
   pub many : maxItems < length xs
   pub few : length xs ≤ 4096
-  pub readable : All (Readable ring) xs
+  pub readable : All (Readable total) xs
   pub room : 6 ≤ length rest
 
-module _ {ring : List ℤ} {left : ℕ} {box : Rect} {xs : List ℕ} {s : Shares} {run rest : List ℕ} (h : Splits ring left box xs s run rest) where
+module _ {total : ℕ} {ring : ℕ → Float} {left : ℕ} {box : Rect} {xs : List ℕ} {s : Shares} {run rest : List ℕ} (h : Splits total ring left box xs s run rest) where
   abbrev behindOf : Shares × List ℕ → List ℕ
   behindOf z = take (length (z .1) - z .0 .own) (drop (z .0 .own) (z .1))
 
@@ -206,12 +206,12 @@ module _ {ring : List ℤ} {left : ℕ} {box : Rect} {xs : List ℕ} {s : Shares
       (omega (arith, shares-few .0), omega (arith, shares-few .1), omega (arith, shares-few .2), omega (arith, shares-few .3), omega (arith, shares-few .4))
 
   -- what the quadrants ask
-  pub quadrants-ask : (left < 64) × (0 ≤ 4) × (length (behindOf (s, run)) ≤ 4096) × All (Readable ring) (behindOf (s, run)) × (sharesFrom s 0 ≡ length (behindOf (s, run)))
+  pub quadrants-ask : (left < 64) × (0 ≤ 4) × (length (behindOf (s, run)) ≤ 4096) × All (Readable total) (behindOf (s, run)) × (sharesFrom s 0 ≡ length (behindOf (s, run)))
   quadrants-ask = (
     h .deep,
     omega arith,
     omega (arith, h .few, given (λ z. length (behindOf z) ≤ length xs) (rw (parts-behind ring left box xs) (gone-few ring left box xs))),
-    given (λ z. All (Readable ring) (behindOf z)) (rw (parts-behind ring left box xs) (all-gone ring left box xs (Readable ring) (h .readable))),
+    given (λ z. All (Readable total) (behindOf z)) (rw (parts-behind ring left box xs) (all-gone ring left box xs (Readable total) (h .readable))),
     given (λ z. sharesFrom (z .0) 0 ≡ length (behindOf z)) (gone-length ring left box xs ∙ ap length (sym (parts-behind ring left box xs))),
   )
 
@@ -234,7 +234,7 @@ module _ {ring : List ℤ} {left : ℕ} {box : Rect} {xs : List ℕ} {s : Shares
     pub split-small : own + 1 + size < 4294967296
     unfolding cropOf
     split-small =
-        omega (arith, split-grew refl .out .sized, grown-size ring (left + 1) box (omega (arith, h .deep)) xs (omega (arith, h .many)) (h .few) (small-all ring xs (h .readable)), h .few)
+        omega (arith, split-grew refl .out .sized, grown-size ring (left + 1) box (omega (arith, h .deep)) xs (omega (arith, h .many)) (h .few) (small-all total xs (h .readable)), h .few)
 
     pub node-fits : 6 * (k + 1) ≤ length rest
     node-fits = omega (arith, g .counted, g .fits, h .room, ap length (part-end rest 6), length-drop 6 rest)

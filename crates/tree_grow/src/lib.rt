@@ -10,6 +10,7 @@ ghost use mathlib.Core.Path.{_≡_};
 ghost use mathlib.Core.List.{_∷_};
 ghost use Prim.Native.Nat.{_+_, _-_, _*_, _<_, _≤_};
 ghost use lib.ListN.{length, drop};
+ghost use Rattle.rings.specs.Ring.{wide};
 ghost use Rattle.varint.specs.Leb128.{encode};
 ghost use Rattle.tree.specs.Tree.{maxItems, maxDepth, leaf, ownBytes, grown};
 ghost use Rattle.tree.specs.All.{All};
@@ -100,8 +101,8 @@ fn share_of(shares: Shares, q: usize) -> usize
 
 // The tree of what arrives, with so many levels below its root.
 fn grow(ring: &[i32], left: usize, bounds: Rect, run: &mut [u32], rest: &mut [u32]) -> Growth
-    requires { ⌜ (left ≤ maxDepth) × (length (now run) ≤ 4096) × All (Readable (now ring)) (now run) ⌝ }
-    ensures { λ r. ⌜ Grew (cropOf (sprout (now (ring .entry)) left bounds (now (run .entry)))) (now (rest .entry)) r (now (run .exit)) (now (rest .exit)) ⌝ }
+    requires { ⌜ (left ≤ maxDepth) × (length (now run) ≤ 4096) × All (Readable (length (now ring))) (now run) ⌝ }
+    ensures { λ r. ⌜ Grew (cropOf (sprout (wide (now (ring .entry))) left bounds (now (run .entry)))) (now (rest .entry)) r (now (run .exit)) (now (rest .exit)) ⌝ }
 {
     if run.len() == 0 {
         return Growth::Stands(0, 0);
@@ -120,8 +121,8 @@ fn grow(ring: &[i32], left: usize, bounds: Rect, run: &mut [u32], rest: &mut [u3
 
 // A node that splits, with so many levels below its quadrants. Its record is written last, since it has the size.
 fn grow_split(ring: &[i32], left: usize, bounds: Rect, run: &mut [u32], rest: &mut [u32]) -> Growth
-    requires { ⌜ (left < maxDepth) × (maxItems < length (now run)) × (length (now run) ≤ 4096) × All (Readable (now ring)) (now run) × (6 ≤ length (now rest)) ⌝ }
-    ensures { λ r. ⌜ Grew (cropOf (grown (now (ring .entry)) (left + 1) bounds (now (run .entry)))) (now (rest .entry)) r (now (run .exit)) (now (rest .exit)) ⌝ }
+    requires { ⌜ (left < maxDepth) × (maxItems < length (now run)) × (length (now run) ≤ 4096) × All (Readable (length (now ring))) (now run) × (6 ≤ length (now rest)) ⌝ }
+    ensures { λ r. ⌜ Grew (cropOf (grown (wide (now (ring .entry))) (left + 1) bounds (now (run .entry)))) (now (rest .entry)) r (now (run .exit)) (now (rest .exit)) ⌝ }
 {
     let shares = share_out(ring, bounds, run);
     let own = shares.own;
@@ -153,8 +154,8 @@ fn grow_from(
     run: &mut [u32],
     rest: &mut [u32],
 ) -> Growth
-    requires { ⌜ (left < maxDepth) × (q ≤ 4) × (length (now run) ≤ 4096) × All (Readable (now ring)) (now run) × (sharesFrom shares q ≡ length (now run)) ⌝ }
-    ensures { λ r. ⌜ Grew (cropFrom (now (ring .entry)) left bounds shares q (now (run .entry))) (now (rest .entry)) r (now (run .exit)) (now (rest .exit)) ⌝ }
+    requires { ⌜ (left < maxDepth) × (q ≤ 4) × (length (now run) ≤ 4096) × All (Readable (length (now ring))) (now run) × (sharesFrom shares q ≡ length (now run)) ⌝ }
+    ensures { λ r. ⌜ Grew (cropFrom (wide (now (ring .entry))) left bounds shares q (now (run .entry))) (now (rest .entry)) r (now (run .exit)) (now (rest .exit)) ⌝ }
 {
     if q == 4 {
         return Growth::Stands(0, 0);
@@ -186,8 +187,8 @@ fn grow_from(
 // Grows a ring's tree from the segments in `run`; its nodes go to `rest`. For the builder, which has
 // checked the ring.
 pub fn grow_tree(ring: &[i32], bounds: Rect, run: &mut [u32], rest: &mut [u32]) -> Grown
-    requires { ⌜ (0 < length (now run)) × (length (now run) ≤ 4096) × All (Readable (now ring)) (now run) ⌝ }
-    ensures { λ r. ⌜ TreeGrew (grown (now (ring .entry)) maxDepth bounds (now (run .entry))) (now (rest .entry)) r (now (run .exit)) (now (rest .exit)) ⌝ }
+    requires { ⌜ (0 < length (now run)) × (length (now run) ≤ 4096) × All (Readable (length (now ring))) (now run) ⌝ }
+    ensures { λ r. ⌜ TreeGrew (grown (wide (now (ring .entry))) maxDepth bounds (now (run .entry))) (now (rest .entry)) r (now (run .exit)) (now (rest .exit)) ⌝ }
 {
     match grow(ring, QuadTree::Q_MAX_DEPTH, bounds, run, rest) {
         Growth::Stands(nodes, _) => Grown::Nodes(nodes),

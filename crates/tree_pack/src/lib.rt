@@ -1,6 +1,7 @@
 // Packs a grown tree: recursion into quadrants while the remaining depth falls from 64. A child's size stands in its record,
 // so that it is known before the child is written, and nothing is written twice.
 use room::Put;
+use room::wide;
 use tree::QuadTree;
 use varint::put_uvarint;
 ghost use mathlib.Core.Path.{_≡_};
@@ -10,12 +11,6 @@ ghost use Rattle.room.specs.Room.{write};
 ghost use Rattle.varint.specs.Leb128.{encode};
 ghost use Rattle.tree.specs.Tree.{maxDepth, ownBytes};
 ghost use Rattle.tree_pack.specs.Inner.Packing.{headOf, kidsOf, nodeOf, KidsStand, NodeStands};
-
-fn wide(x: u32) -> usize
-    ensures { λ r. ⌜ r ≡ x ⌝ }
-{
-    x as usize
-}
 
 // How far a number lies behind the last one, 0 where it does not.
 fn difference(last: u32, x: u32) -> u64

@@ -6,18 +6,17 @@ use mathlib.Core.Bool.{Bool, true, false, not}
 use native.Mathlib.Omega.{arith}
 use lib.Dec.{eqb}
 use lib.ListN.{length, length-append, length-map}
-use lib.IntN.{ℤ}
-use lib.Ieee.{lt}
+use lib.Ieee.{Float, lt}
 use Rattle.boxes.specs.declared.Rect.{Rect}
 use Rattle.boxes.specs.declared.Chosen.{Chosen}
 use Rattle.boxes.specs.declared.Chosen.the-variants.{Quadrant, Stays}
 use Rattle.boxes.specs.Quads.{quadrant, midX, midY}
-use Rattle.boxes.specs.Segments.{rectOf}
-use Rattle.rings.specs.Ring.{segmentAt}
+use Rattle.rings.specs.Ring.{sideAt}
 use Rattle.room.specs.Numbers.{consIf}
 use Rattle.tree.specs.Tree.{those, goesTo, isStayer, choice, stayers, goers}
 use Rattle.tree.specs.All.{All}
 use Rattle.tree.proofs.Share.{length-shares}
+use Rattle.boxes.specs.Segments.{boxOf}
 use Rattle.tree_part.specs.Part.{Readable, sharesOf, partsOf}
 use Rattle.tree_part.specs.Inner.Halves.{classOf, marked, lower, ofClass, classes, classCounts}
 
@@ -49,12 +48,12 @@ each-told false true false true = (refl, refl, refl, refl, refl)
 each-told false true false false = (refl, refl, refl, refl, refl)
 each-told false false s n = (refl, refl, refl, refl, refl)
 
-module _ (ring : List ℤ) (box : Rect) where
+module _ (ring : ℕ → Float) (box : Rect) where
   told : (i : ℕ)
       → Told 0 isStayer (choice ring box i) × Told 1 (goesTo 0) (choice ring box i) × Told 2 (goesTo 1) (choice ring box i)
       × Told 3 (goesTo 2) (choice ring box i) × Told 4 (goesTo 3) (choice ring box i)
   told i =
-      let r = rectOf (segmentAt ring i) in
+      let r = boxOf (sideAt ring i) in
       each-told (lt (r .max .x) (midX box)) (not (lt (r .min .x) (midX box))) (lt (r .max .y) (midY box)) (not (lt (r .min .y) (midY box)))
 
   -- the run that is marked, in its lower halves
@@ -69,34 +68,34 @@ module _ (ring : List ℤ) (box : Rect) where
   unfolding marked
   mark-number i h = omega (arith, class-small (choice ring box i))
 
-  of-marks : (k : ℕ) (t : Chosen → Bool) → ((i : ℕ) → Told k t (choice ring box i)) → (xs : List ℕ) → All (Readable ring) xs
+  of-marks : (long k : ℕ) (t : Chosen → Bool) → ((i : ℕ) → Told k t (choice ring box i)) → (xs : List ℕ) → All (Readable long) xs
       → ofClass k (marks xs) ≡ those (λ i. t (choice ring box i)) xs
   unfolding ofClass those All
-  of-marks k t way [] a = refl
-  of-marks k t way (x ∷ xs) a =
+  of-marks long k t way [] a = refl
+  of-marks long k t way (x ∷ xs) a =
       rw (mark-class x (a .0 .1), mark-number x (a .0 .1))
-      (ap₂ (λ (b : Bool) (ys : List ℕ). consIf b x ys) (way x) (of-marks k t way xs (a .1)))
+      (ap₂ (λ (b : Bool) (ys : List ℕ). consIf b x ys) (way x) (of-marks long k t way xs (a .1)))
 
   -- nothing is lost, and nothing comes twice
   pub parts-length : (xs : List ℕ) → length (partsOf ring box xs) ≡ length xs
   unfolding partsOf
   parts-length xs = simp length-append (omega (arith, length-shares ring box xs))
 
-  module _ (xs : List ℕ) (a : All (Readable ring) xs) where
+  module _ (long : ℕ) (xs : List ℕ) (a : All (Readable long) xs) where
     own : ofClass 0 (marks xs) ≡ stayers ring box xs
-    own = of-marks 0 isStayer (λ i. told i .0) xs a
+    own = of-marks long 0 isStayer (λ i. told i .0) xs a
 
     nw : ofClass 1 (marks xs) ≡ goers ring box 0 xs
-    nw = of-marks 1 (goesTo 0) (λ i. told i .1) xs a
+    nw = of-marks long 1 (goesTo 0) (λ i. told i .1) xs a
 
     ne : ofClass 2 (marks xs) ≡ goers ring box 1 xs
-    ne = of-marks 2 (goesTo 1) (λ i. told i .2) xs a
+    ne = of-marks long 2 (goesTo 1) (λ i. told i .2) xs a
 
     sw : ofClass 3 (marks xs) ≡ goers ring box 2 xs
-    sw = of-marks 3 (goesTo 2) (λ i. told i .3) xs a
+    sw = of-marks long 3 (goesTo 2) (λ i. told i .3) xs a
 
     se : ofClass 4 (marks xs) ≡ goers ring box 3 xs
-    se = of-marks 4 (goesTo 3) (λ i. told i .4) xs a
+    se = of-marks long 4 (goesTo 3) (λ i. told i .4) xs a
 
     pub classes-parts : classes (marks xs) ≡ partsOf ring box xs
     unfolding classes partsOf

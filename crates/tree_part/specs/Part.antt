@@ -2,17 +2,17 @@
 use Prim.Native.Nat.{ℕ, _+_, _*_, _<_}
 use mathlib.Core.List.{List, _++_}
 use lib.ListN.{length}
-use lib.IntN.{ℤ}
+use lib.Ieee.{Float}
 use Rattle.boxes.specs.declared.Rect.{Rect}
 use Rattle.tree.specs.Tree.{stayers, goers, forEachQuadrant}
 use Rattle.tree_part.specs.declared.Shares.{Shares}
 
--- a segment that the ring has, and one of the 4,096 that a ring may have
-abbrev pub Readable : List ℤ → ℕ → Type 0
-Readable ring i = (i * 2 + 3 < length ring) × (i < 4096)
+-- a segment that a ring of so many numbers has, and one of the 4,096 that a ring may have
+abbrev pub Readable : ℕ → ℕ → Type 0
+Readable long i = (i * 2 + 3 < long) × (i < 4096)
 
 -- how many stay, and how many go to each quadrant
-unfoldable pub sharesOf : List ℤ → Rect → List ℕ → Shares
+unfoldable pub sharesOf : (ℕ → Float) → Rect → List ℕ → Shares
 sharesOf ring box xs =
     record {
       own = length (stayers ring box xs);
@@ -23,8 +23,8 @@ sharesOf ring box xs =
     }
 
 -- the stayers, then those that go to quadrant 0, 1, 2 and 3, each in the order in which they arrived
-unfoldable pub partsOf : List ℤ → Rect → List ℕ → List ℕ
+unfoldable pub partsOf : (ℕ → Float) → Rect → List ℕ → List ℕ
 partsOf ring box xs = stayers ring box xs ++ forEachQuadrant (λ q. goers ring box q xs)
 
-abbrev pub sharedOut : List ℤ → Rect → List ℕ → Shares × List ℕ
+abbrev pub sharedOut : (ℕ → Float) → Rect → List ℕ → Shares × List ℕ
 sharedOut ring box xs = (sharesOf ring box xs, partsOf ring box xs)

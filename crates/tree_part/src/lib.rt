@@ -7,6 +7,7 @@ ghost use mathlib.Core.Path.{_≡_};
 ghost use mathlib.Core.List.{map};
 ghost use Prim.Native.Nat.{_+_, _*_, _<_, _≤_};
 ghost use lib.ListN.{length};
+ghost use Rattle.rings.specs.Ring.{wide};
 ghost use Rattle.tree.specs.All.{All};
 ghost use Rattle.tree_part.specs.Part.{Readable, sharedOut};
 ghost use Rattle.tree_part.specs.Inner.Halves.{classOf, marked, lower, upper, ofClass, Lifted, classes, classCounts};
@@ -37,8 +38,8 @@ fn class_of(way: Chosen) -> u32
 
 // A segment with its class as a mark above its number.
 fn mark(ring: &[i32], bounds: Rect, x: u32) -> u32
-    requires { ⌜ Readable (now ring) x ⌝ }
-    ensures { λ r. ⌜ r ≡ marked (now (ring .entry)) bounds x ⌝ }
+    requires { ⌜ Readable (length (now ring)) x ⌝ }
+    ensures { λ r. ⌜ r ≡ marked (wide (now (ring .entry))) bounds x ⌝ }
 {
     let segment = segment_at(ring, x as usize);
     x + 4096 * class_of(choose_quad(bounds, segment.rect()))
@@ -46,8 +47,8 @@ fn mark(ring: &[i32], bounds: Rect, x: u32) -> u32
 
 // Marks every segment of the run.
 fn mark_all(ring: &[i32], bounds: Rect, run: &mut [u32])
-    requires { ⌜ All (Readable (now ring)) (now run) ⌝ }
-    ensures { λ _. ⌜ now (run .exit) ≡ map (marked (now (ring .entry)) bounds) (now (run .entry)) ⌝ }
+    requires { ⌜ All (Readable (length (now ring))) (now run) ⌝ }
+    ensures { λ _. ⌜ now (run .exit) ≡ map (marked (wide (now (ring .entry))) bounds) (now (run .entry)) ⌝ }
 {
     let mut i: usize = 0;
     while i < run.len() {
@@ -110,8 +111,8 @@ fn settle(run: &mut [u32])
 // Shares a run of segments out: the stayers come first, then the segments of quadrants 0 to 3, each in the order in which
 // they stood. For the crates above, which have checked the ring.
 pub fn share_out(ring: &[i32], bounds: Rect, run: &mut [u32]) -> Shares
-    requires { ⌜ All (Readable (now ring)) (now run) ⌝ }
-    ensures { λ r. ⌜ sharedOut (now (ring .entry)) bounds (now (run .entry)) ≡ (r, now (run .exit)) ⌝ }
+    requires { ⌜ All (Readable (length (now ring))) (now run) ⌝ }
+    ensures { λ r. ⌜ sharedOut (wide (now (ring .entry))) bounds (now (run .entry)) ≡ (r, now (run .exit)) ⌝ }
 {
     mark_all(ring, bounds, run);
     let shares = lift_all(run);

@@ -12,7 +12,7 @@ use borrow.Author.Needs.{needs}
 use Rattle.answers.specs.declared.Refusal.the-variants.{NoRoom, Damaged}
 use Rattle.room.specs.Room.{write, pad}
 use Rattle.room.proofs.Fill.{write-pad}
-use Rattle.rings.specs.Ring.{segmentAt, holdsHeight}
+use Rattle.rings.specs.Ring.{wide, sideAt, holdsHeight}
 use Rattle.stripes_find.specs.declared.StripesListed.the-variants.{StripesFound, StripesUnlisted}
 use Rattle.stripes_find.specs.Search.{foundIn, endIn}
 use Rattle.stripes_find.proofs.Reading.{Listing, listing-start, listing-kept, listing-passed, listing-full, listing-broken, listing-done}
@@ -21,7 +21,7 @@ use Rattle.stripes_find.proofs.list_run.Statement.{statement}
 use Rattle.stripes_find.proofs.list_run.Tie as tie
 
 abbrev test : List ℤ → Float → ℕ → Bool
-test ring y i = holdsHeight (segmentAt ring i) y
+test ring y i = holdsHeight (sideAt (wide ring) i) y
 
 abbrev Inv-loop : tie.InvT-loop
 Inv-loop ring n list start past y out₀ k₀ at₀ out k at =

@@ -8,7 +8,7 @@ use native.Mathlib.Omega.{arith}
 use borrow.Author.Needs.{needs}
 use Rattle.answers.specs.declared.Refusal.the-variants.{Damaged}
 use Rattle.room.proofs.Fill.{pad-none}
-use Rattle.rings.specs.Ring.{segmentAt, holdsHeight}
+use Rattle.rings.specs.Ring.{wide, sideAt, holdsHeight}
 use Rattle.stripes_find.specs.declared.StripesListed.the-variants.{StripesFound, StripesUnlisted}
 use Rattle.stripes_find.specs.Search.{Reading, complete, damagedAt}
 use Rattle.stripes_find.specs.Listing.{poured}
@@ -22,7 +22,7 @@ returns c =
     let z = c .before .before .before .before in
     let a = z .before .before .before .before .before .args in
     ap (λ (r : Reading). poured r (a .out .now))
-    (searched-outside (a .ring .now) (a .n) (a .least) (a .height) (a .stripes .now) (a .list .now) (a .y) (sym (c .before .is-outside .ensures) ∙ c .if1 .taken))
+    (searched-outside (wide (a .ring .now)) (a .n) (a .least) (a .height) (a .stripes .now) (a .list .now) (a .y) (sym (c .before .is-outside .ensures) ∙ c .if1 .taken))
     ∙ poured-whole [] complete (a .out .now) (omega arith) refl
     ∙ ap (λ (o : List ℕ). (StripesFound 0, o)) (pad-none (length (a .out .now)) ∙ sym (z .zero-fill-u32 .ensures))
 
@@ -32,7 +32,7 @@ list-run-requires c κs =
     let z = s .before .before .before .before .before in
     let b = z .before .before .before .before .before in
     let a = b .args in
-    let r = read-run (a .n) (λ i. holdsHeight (segmentAt (a .ring .now) i) (a .y)) (a .least) (a .height) (a .stripes .now) (a .list .now) (a .y) _ _
+    let r = read-run (a .n) (λ i. holdsHeight (sideAt (wide (a .ring .now)) i) (a .y)) (a .least) (a .height) (a .stripes .now) (a .list .now) (a .y) _ _
     (sym (s .stripe-part .ensures) ∙ c .before .before .part2 .given .1) in
     ((omega arith, r .1, r .2), z .zero-fill-u32 .ensures ∙ ap (λ (k : ℕ). replicate k 0) (sym (z .zero-fill-u32 .kept .0)))
 
@@ -43,8 +43,8 @@ returns-2 c =
     let a = z .before .before .before .before .before .args in
     let p = c .before .part .given .0 .0 in
     ap (λ (r : Reading). poured r (a .out .now))
-    (searched-within (a .ring .now) (a .n) (a .least) (a .height) (a .stripes .now) (a .list .now) (a .y) (sym (s .before .before .is-outside .ensures) ∙ s .before .if1 .left)
-    ∙ read-broken (a .n) (λ i. holdsHeight (segmentAt (a .ring .now) i) (a .y)) (a .least) (a .height) (a .stripes .now) (a .list .now) (a .y) p
+    (searched-within (wide (a .ring .now)) (a .n) (a .least) (a .height) (a .stripes .now) (a .list .now) (a .y) (sym (s .before .before .is-outside .ensures) ∙ s .before .if1 .left)
+    ∙ read-broken (a .n) (λ i. holdsHeight (sideAt (wide (a .ring .now)) i) (a .y)) (a .least) (a .height) (a .stripes .now) (a .list .now) (a .y) p
     (sym (s .stripe-part .ensures) ∙ c .before .part .given .1))
     ∙ poured-hurt [] (damagedAt p) (a .out .now) p (omega arith) refl
     ∙ ap (λ (o : List ℕ). (StripesUnlisted (Damaged p), o)) (sym (z .zero-fill-u32 .ensures))
@@ -56,10 +56,10 @@ returns-3 c =
     let z = s .before .before .before .before .before in
     let b = z .before .before .before .before .before in
     let a = b .args in
-    let r = read-run (a .n) (λ i. holdsHeight (segmentAt (a .ring .now) i) (a .y)) (a .least) (a .height) (a .stripes .now) (a .list .now) (a .y) _ _
+    let r = read-run (a .n) (λ i. holdsHeight (sideAt (wide (a .ring .now)) i) (a .y)) (a .least) (a .height) (a .stripes .now) (a .list .now) (a .y) _ _
     (sym (s .stripe-part .ensures) ∙ l .before .before .before .part2 .given .1) in
     ap (λ (r : Reading). poured r (a .out .now))
-    (searched-within (a .ring .now) (a .n) (a .least) (a .height) (a .stripes .now) (a .list .now) (a .y) (sym (s .before .before .is-outside .ensures) ∙ s .before .if1 .left)
+    (searched-within (wide (a .ring .now)) (a .n) (a .least) (a .height) (a .stripes .now) (a .list .now) (a .y) (sym (s .before .before .is-outside .ensures) ∙ s .before .if1 .left)
     ∙ r .0)
     ∙ poured-room _ (a .out .now) _ (sym (z .zero-fill-u32 .kept .0))
     ∙ l .list-run .ensures

@@ -4,11 +4,10 @@ use mathlib.Core.List.{List}
 use Prim.Native.Nat.{ℕ, _+_, _*_, _/_}
 use lib.ListN.{length, getD}
 use lib.Seq.{slice}
-use lib.IntN.{ℤ}
 use lib.Dec.{ltb, eqb}
 use lib.Ieee.{Float}
 use Rattle.stripes_place.specs.Stripe.{stripeOf}
-use Rattle.rings.specs.Ring.{segmentAt, holdsHeight}
+use Rattle.rings.specs.Ring.{sideAt, holdsHeight}
 use Rattle.stripes_find.specs.Search.{Reading, foundIn, endIn}
 use Rattle.stripes_find.specs.declared.Part.{Part}
 use Rattle.stripes_find.specs.declared.Part.the-variants.{Run, Broken}
@@ -22,9 +21,9 @@ partAt least height stripes long y =
     cond (eqb (length stripes / 2) 0) (Broken 0) (cond (ltb long past) (Broken long) (Run start past))
 
 -- what the part from `start` up to `past` comes to, for a ring with n segments
-abbrev pub runRead : List ℤ → ℕ → List ℕ → ℕ → ℕ → Float → Reading
+abbrev pub runRead : (ℕ → Float) → ℕ → List ℕ → ℕ → ℕ → Float → Reading
 runRead ring n list start past y =
     record {
-      found = foundIn n (λ i. holdsHeight (segmentAt ring i) y) (slice start past list);
+      found = foundIn n (λ i. holdsHeight (sideAt ring i) y) (slice start past list);
       ending = endIn n start (slice start past list);
     }

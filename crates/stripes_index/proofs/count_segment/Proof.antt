@@ -6,6 +6,7 @@ use Prim.Native.Nat.{ℕ, _+_, _*_, _≤_, _<_, _-_}
 use lib.ListN.{length, getD, set, length-set}
 use native.Mathlib.Omega.{arith}
 use borrow.Author.Needs.{needs}
+use Rattle.rings.specs.Ring.{wide}
 use Rattle.room.specs.Room.{pad}
 use Rattle.stripes_place.proofs.Mono.{stripe-below}
 use Rattle.stripes_place.specs.Stripe.{stripeOf}
@@ -19,9 +20,9 @@ use Rattle.stripes_index.proofs.count_segment.Tie as tie
 
 abbrev Inv-loop : tie.InvT-loop
 Inv-loop ring least height m i stripes₀ last s₀ stripes s =
-    (stripes ≡ pad (length stripes₀) (countsTo (crosses ring least height m) m none i s))
-    × (length stripes ≡ length stripes₀) × (firstStripe ring least height m i ≤ s)
-    × (last ≡ lastStripe ring least height m i) × (last < m)
+    (stripes ≡ pad (length stripes₀) (countsTo (crosses (wide ring) least height m) m none i s))
+    × (length stripes ≡ length stripes₀) × (firstStripe (wide ring) least height m i ≤ s)
+    × (last ≡ lastStripe (wide ring) least height m i) × (last < m)
 
 abbrev μ-loop : tie.MeasureT-loop
 μ-loop ring least height m i stripes₀ last s₀ stripes s = m - s
@@ -30,23 +31,23 @@ loop-holds : tie.Need-loop-holds Inv-loop μ-loop
 loop-holds c =
     let a = c .before .before .before .before .before .args in
     let p = c .before .before .before .before .before .pre in
-    let e : c .stripe-of2 .result ≡ firstStripe (a .ring .now) (a .least) (a .height) (a .m) (a .i) = simp (c .stripe-of2 .ensures, c .before .low-end .ensures) in
-    let f : c .before .before .stripe-of .result ≡ lastStripe (a .ring .now) (a .least) (a .height) (a .m) (a .i) = simp (c .before .before .stripe-of .ensures, c .before .before .before .high-end .ensures) in (
+    let e : c .stripe-of2 .result ≡ firstStripe (wide (a .ring .now)) (a .least) (a .height) (a .m) (a .i) = simp (c .stripe-of2 .ensures, c .before .low-end .ensures) in
+    let f : c .before .before .stripe-of .result ≡ lastStripe (wide (a .ring .now)) (a .least) (a .height) (a .m) (a .i) = simp (c .before .before .stripe-of .ensures, c .before .before .before .high-end .ensures) in (
       p .1
           ∙ ap (pad (length (a .stripes .now)))
-          (sym (counts-from (crosses (a .ring .now) (a .least) (a .height) (a .m)) (a .m) (a .i) (c .stripe-of2 .result) none
-          (λ t h. omega (arith, e, crosses-from (a .ring .now) (a .least) (a .height) (a .m) t (a .i) h)))),
+          (sym (counts-from (crosses (wide (a .ring .now)) (a .least) (a .height) (a .m)) (a .m) (a .i) (c .stripe-of2 .result) none
+          (λ t h. omega (arith, e, crosses-from (wide (a .ring .now)) (a .least) (a .height) (a .m) t (a .i) h)))),
       refl,
       omega arith,
       f,
-      omega (arith, f, stripe-below (highEnd (a .ring .now) (a .i)) (a .least) (a .height) (a .m) (p .0 .2) (omega arith)),
+      omega (arith, f, stripe-below (highEnd (wide (a .ring .now)) (a .i)) (a .least) (a .height) (a .m) (p .0 .2) (omega arith)),
     )
 
 add-stripes-2 : tie.Need-add-stripes-2 Inv-loop μ-loop
 add-stripes-2 c =
     let l = c .before .before .loop in
     let a = c .before .before .before .before .before .before .before .before .args in
-    let cross = crosses (a .ring .now) (a .least) (a .height) (a .m) in
+    let cross = crosses (wide (a .ring .now)) (a .least) (a .height) (a .m) in
     let e : getD (l .stripes) (l .s * 2 + 1) 0 ≡ length (partOf cross (a .i) (l .s)) =
     ap (λ (xs : List ℕ). getD xs (l .s * 2 + 1) 0) (l .inv .0) ∙ count-is cross (a .m) (a .i) (l .s) (omega arith) (length (a .stripes .now)) none in
     omega (arith, e, part-length cross (a .i) (l .s))
@@ -56,8 +57,8 @@ loop-again c =
     let l = c .before .before .loop in
     let a = c .before .before .before .before .before .before .before .before .args in (
       ap (λ (xs : List ℕ). set xs (l .s * 2 + 1) (getD xs (l .s * 2 + 1) 0 + 1)) (l .inv .0)
-          ∙ count-turn (crosses (a .ring .now) (a .least) (a .height) (a .m)) (a .m) (a .i) (l .s) (omega arith) (length (a .stripes .now)) none
-          (crosses-at (a .ring .now) (a .least) (a .height) (a .m) (l .s) (a .i) (l .inv .2) (omega arith)),
+          ∙ count-turn (crosses (wide (a .ring .now)) (a .least) (a .height) (a .m)) (a .m) (a .i) (l .s) (omega arith) (length (a .stripes .now)) none
+          (crosses-at (wide (a .ring .now)) (a .least) (a .height) (a .m) (l .s) (a .i) (l .inv .2) (omega arith)),
       simp length-set (l .inv .1),
       omega arith,
       l .inv .3,
@@ -70,8 +71,8 @@ returns c =
     let a = c .before .before .before .before .before .before .before .args in
     l .inv .0
     ∙ ap (pad (length (a .stripes .now)))
-    (counts-done (crosses (a .ring .now) (a .least) (a .height) (a .m)) (a .m) (a .i) (l .s) none
-    (λ t h. omega (arith, crosses-to (a .ring .now) (a .least) (a .height) (a .m) t (a .i) h)))
+    (counts-done (crosses (wide (a .ring .now)) (a .least) (a .height) (a .m)) (a .m) (a .i) (l .s) none
+    (λ t h. omega (arith, crosses-to (wide (a .ring .now)) (a .least) (a .height) (a .m) t (a .i) h)))
 
 pub count-segment-spec : {M : Type 1} → statement M
 count-segment-spec =

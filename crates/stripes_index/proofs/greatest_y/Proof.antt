@@ -4,12 +4,13 @@ use Prim.Native.Nat.{_≤_, _-_}
 use native.Mathlib.Omega.{arith}
 use native.Mathlib.Numerals.{add-one}
 use borrow.Author.Needs.{needs}
+use Rattle.rings.specs.Ring.{wide}
 use Rattle.stripes_index.specs.Index.{greatestY}
 use Rattle.stripes_index.proofs.greatest_y.Statement.{statement}
 use Rattle.stripes_index.proofs.greatest_y.Tie as tie
 
 abbrev Inv-loop : tie.InvT-loop
-Inv-loop ring n greatest₀ i₀ greatest i = (i ≤ n) × (greatest ≡ greatestY ring i)
+Inv-loop ring n greatest₀ i₀ greatest i = (i ≤ n) × (greatest ≡ greatestY (wide ring) i)
 
 abbrev μ-loop : tie.MeasureT-loop
 μ-loop ring n greatest₀ i₀ greatest i = n - i

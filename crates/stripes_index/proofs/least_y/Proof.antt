@@ -4,12 +4,13 @@ use Prim.Native.Nat.{_≤_, _-_}
 use native.Mathlib.Omega.{arith}
 use native.Mathlib.Numerals.{add-one}
 use borrow.Author.Needs.{needs}
+use Rattle.rings.specs.Ring.{wide}
 use Rattle.stripes_index.specs.Index.{leastY}
 use Rattle.stripes_index.proofs.least_y.Statement.{statement}
 use Rattle.stripes_index.proofs.least_y.Tie as tie
 
 abbrev Inv-loop : tie.InvT-loop
-Inv-loop ring n least₀ i₀ least i = (i ≤ n) × (least ≡ leastY ring i)
+Inv-loop ring n least₀ i₀ least i = (i ≤ n) × (least ≡ leastY (wide ring) i)
 
 abbrev μ-loop : tie.MeasureT-loop
 μ-loop ring n least₀ i₀ least i = n - i

@@ -5,6 +5,7 @@ use Prim.Native.Nat.{ℕ, _≤_, _<_}
 use lib.ListN.{length}
 use native.Mathlib.Omega.{arith}
 use borrow.Author.Needs.{needs}
+use Rattle.rings.specs.Ring.{wide}
 use Rattle.room.specs.Room.{pad}
 use Rattle.stripes_index.specs.Index.{crosses, partOf}
 use Rattle.stripes_index.specs.Inner.States.{secondAt, tableAt}
@@ -18,7 +19,7 @@ place-starts-requires c κs =
     let k = c .before .before .before in
     let b = k .before .before .before in
     let a = b .args in
-    let cross = crosses (a .ring .now) (a .least) (a .height) (a .m) in
+    let cross = crosses (wide (a .ring .now)) (a .least) (a .height) (a .m) in
     let w = k .count-all .ensures in
     let e = k .count-all .kept .1 .1 .1 .1 .1 .0 in (
       (
@@ -34,7 +35,7 @@ returns c =
     let p = c .before .before in
     let k = p .before .before .before .before in
     let a = k .before .before .before .args in
-    let cross = crosses (a .ring .now) (a .least) (a .height) (a .m) in
+    let cross = crosses (wide (a .ring .now)) (a .least) (a .height) (a .m) in
     let w = k .count-all .ensures in
     let e = k .count-all .kept .1 .1 .1 .1 .1 .0 in (
       (

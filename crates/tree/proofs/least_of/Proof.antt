@@ -1,6 +1,7 @@
+use Rattle.rings.specs.Ring.{wide}
 use Rattle.tree.proofs.Extremes.{at, least-first, least-next}
 use Rattle.tree.specs.Tree.{least}
-use Rattle.boxes.specs.Segments.{lesser}
+use Rattle.floats.specs.Values.{lesserOf}
 use lib.Ieee.{Float}
 use Prim.Native.Nat.{ℕ, _+_, _*_, _-_, _≤_, _<_}
 use mathlib.Core.Path.{_≡_, refl, sym, ap, ap₂, _∙_}
@@ -10,54 +11,42 @@ use Rattle.tree.proofs.least_of.Statement.{statement}
 use Rattle.tree.proofs.least_of.Tie as tie
 use Rattle.tree.proofs.least_of.Reads as reads
 use Rattle.tree.proofs.least_of.Lts as lts
-use Rattle.tree.proofs.coordinate.Reads as coordinate-reads
-use Rattle.tree.proofs.lower.Reads as lower-reads
 
 abbrev Inv-loop : tie.InvT-loop
-Inv-loop coords offset last low₀ i₀ low i = (i ≤ last) × (low ≡ least (at coords offset) i)
+Inv-loop coords offset last low₀ i₀ low i = (i ≤ last) × (low ≡ least (at (wide coords) offset) i)
 
 abbrev μ-loop : tie.MeasureT-loop
 μ-loop coords offset last low₀ i₀ low i = last - i
 
--- src/lib.rt:43:9
 coordinate-requires : tie.Need-coordinate-requires Inv-loop μ-loop
 coordinate-requires c κs = search needs
 
--- src/lib.rt:45:5
 loop-holds : tie.Need-loop-holds Inv-loop μ-loop
-loop-holds c = (omega arith, c .coordinate .ensures ∙ least-first (c .before .args .coords .now) (c .before .args .offset))
+loop-holds c = (omega arith, c .coordinate .ensures ∙ least-first (wide (c .before .args .coords .now)) (c .before .args .offset))
 
--- src/lib.rt:46:9
 add-i : tie.Need-add-i Inv-loop μ-loop
 add-i c = search needs
 
--- src/lib.rt:47:45
 mul-coordinate : tie.Need-mul-coordinate Inv-loop μ-loop
 mul-coordinate c = search needs
 
--- src/lib.rt:47:45
 add-coordinate : tie.Need-add-coordinate Inv-loop μ-loop
 add-coordinate c = search needs
 
--- src/lib.rt:47:26
 coordinate-requires-2 : tie.Need-coordinate-requires-2 Inv-loop μ-loop
 coordinate-requires-2 c κs = search needs
 
--- src/lib.rt:47:9
-lower-requires : tie.Need-lower-requires Inv-loop μ-loop
-lower-requires c κs = search needs
+lesser-requires : tie.Need-lesser-requires Inv-loop μ-loop
+lesser-requires c κs = search needs
 
--- src/lib.rt:45:5
 loop-less : tie.Need-loop-less Inv-loop μ-loop
 loop-less c = search needs
 
--- src/lib.rt:45:5
 loop-again : tie.Need-loop-again Inv-loop μ-loop
-loop-again c = (omega arith, c .lower .ensures ∙ ap₂ (λ (a b : Float). lesser a b) (c .before .before .before .loop .inv .1) (c .before .coordinate2 .ensures) ∙ least-next (c .before .before .before .before .before .args .coords .now) (c .before .before .before .before .before .args .offset) (c .before .before .before .loop .i))
+loop-again c = (omega arith, c .lesser .ensures ∙ ap₂ (λ (a b : Float). lesserOf a b) (c .before .before .before .loop .inv .1) (c .before .coordinate2 .ensures) ∙ least-next (wide (c .before .before .before .before .before .args .coords .now)) (c .before .before .before .before .before .args .offset) (c .before .before .before .loop .i))
 
--- src/lib.rt:39:1
 returns : tie.Need-returns Inv-loop μ-loop
-returns c = c .before .loop .inv .1 ∙ ap (λ (k : ℕ). least (at (c .before .before .before .args .coords .now) (c .before .before .before .args .offset)) k) (omega (arith, c .loop-test .left, c .before .loop .inv .0))
+returns c = c .before .loop .inv .1 ∙ ap (λ (k : ℕ). least (at (wide (c .before .before .before .args .coords .now)) (c .before .before .before .args .offset)) k) (omega (arith, c .loop-test .left, c .before .loop .inv .0))
 
 pub least-of-spec : {M : Type 1} → statement M
 least-of-spec =
@@ -71,7 +60,7 @@ least-of-spec =
     mul-coordinate
     add-coordinate
     coordinate-requires-2
-    lower-requires
+    lesser-requires
     loop-less
     loop-again
     returns)

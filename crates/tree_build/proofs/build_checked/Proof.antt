@@ -6,6 +6,7 @@ use native.Mathlib.Omega.{arith}
 use lib.ListN.{length, replicate}
 use borrow.Author.Needs.{needs}
 use Rattle.answers.specs.declared.Refusal.the-variants.{NoRoom}
+use Rattle.rings.specs.Ring.{wide}
 use Rattle.tree_build.specs.declared.TreeBuilt.the-variants.{TreeRefused}
 use Rattle.tree_build.specs.Inner.Steps.{Bytes}
 use Rattle.tree_build.proofs.Building.{packed-short, packed-rest, rest-length, zeros-part}
@@ -15,7 +16,7 @@ use Rattle.tree_build.proofs.build_checked.Tie as tie
 returns : tie.Need-returns
 returns c =
     let b = c .before .before .before in
-    packed-short (b .args .ring .now) (b .args .points) (b .args .bytes .now) (b .args .work .now) (c .if1 .taken)
+    packed-short (wide (b .args .ring .now)) (b .args .points) (b .args .bytes .now) (b .args .work .now) (c .if1 .taken)
     ∙ ap (λ (x : List ℕ). (TreeRefused NoRoom, x, replicate (length (b .args .work .now)) 0)) (sym (b .pre .1))
 
 slice-aggregate-grow-and-pack : tie.Need-slice-aggregate-grow-and-pack
@@ -33,7 +34,7 @@ returns-2 c =
     let k1 = c .before .before .before .before .before in
     let k2 = k1 .before .before .before .before in
     let b = k2 .before .before .before in
-    packed-rest (b .args .ring .now) (b .args .points) (b .args .bytes .now) (b .args .work .now) (k2 .if1 .left) _ (rest-length (b .args .points - 1) (b .args .work .now))
+    packed-rest (wide (b .args .ring .now)) (b .args .points) (b .args .bytes .now) (b .args .work .now) (k2 .if1 .left) _ (rest-length (b .args .points - 1) (b .args .work .now))
     ∙ ap (λ (o : Bytes). (o .0, o .1, replicate (length (b .args .work .now)) 0)) (k1 .grow-and-pack .ensures)
 
 pub build-checked-spec : {M : Type 1} → statement M

@@ -5,6 +5,7 @@ use mathlib.Core.List.{List}
 use lib.ListN.{length, replicate}
 use borrow.Author.Needs.{needs}
 use Rattle.room.proofs.Fill.{pad-none}
+use Rattle.rings.specs.Ring.{wide}
 use Rattle.tree_build.specs.declared.TreeBuilt.the-variants.{Unpacked}
 use Rattle.tree_build.proofs.Building.{from-under, from-reached, packed-room, work-last}
 use Rattle.tree_build.proofs.build_sound.Statement.{statement}
@@ -16,7 +17,7 @@ returns c =
     let k2 = k1 .before .before in
     let k3 = k2 .before .before .before in
     let b = k3 .before .before .before .before in
-    from-under (b .args .ring .now) (b .args .points) (b .args .threshold) (b .args .bytes .now) (b .args .work .now) (k2 .if1 .taken)
+    from-under (wide (b .args .ring .now)) (b .args .points) (b .args .threshold) (b .args .bytes .now) (b .args .work .now) (k2 .if1 .taken)
     ∙ ap₂ (λ (x y : List ℕ). (Unpacked, x, y)) (sym (k3 .zero-from-u8 .ensures ∙ pad-none (length (b .args .bytes .now)))) (sym (k1 .zero-fill-u32 .ensures))
 
 build-checked-requires : tie.Need-build-checked-requires
@@ -33,8 +34,8 @@ returns-2 c =
     let k4 = k3 .before .before .before in
     let b = k4 .before .before .before .before in
     work-last
-    (from-reached (b .args .ring .now) (b .args .points) (b .args .threshold) (b .args .bytes .now) (b .args .work .now) (k3 .if1 .left)
-    ∙ packed-room (b .args .ring .now) (b .args .points) (b .args .bytes .now) _ (b .args .work .now) (b .args .work .now) (sym (k4 .zero-from-u8 .kept .0)) refl
+    (from-reached (wide (b .args .ring .now)) (b .args .points) (b .args .threshold) (b .args .bytes .now) (b .args .work .now) (k3 .if1 .left)
+    ∙ packed-room (wide (b .args .ring .now)) (b .args .points) (b .args .bytes .now) _ (b .args .work .now) (b .args .work .now) (sym (k4 .zero-from-u8 .kept .0)) refl
     ∙ k2 .build-checked .ensures)
     (sym (k1 .zero-from-u32 .ensures ∙ pad-none _ ∙ ap (λ (k : ℕ). replicate k 0) (k2 .build-checked .kept .1 .1 .1 .0)))
 

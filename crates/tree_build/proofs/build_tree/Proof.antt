@@ -2,6 +2,7 @@
 use mathlib.Core.Path.{sym, _∙_}
 use borrow.Author.Needs.{needs}
 use Rattle.rings.proofs.Checks.{sound-ring}
+use Rattle.rings.specs.Ring.{wide}
 use Rattle.tree_build.proofs.Building.{built-faulty, built-sound}
 use Rattle.tree_build.proofs.build_tree.Statement.{statement}
 use Rattle.tree_build.proofs.build_tree.Tie as tie
@@ -19,7 +20,7 @@ returns c =
     let k1 = c .before in
     let k2 = k1 .before .before in
     let b = k2 .before .before .before in
-    built-faulty (b .args .coords .now) (b .args .points) (b .args .threshold) (b .args .bytes .now) (b .args .work .now) _ (sym (k2 .check-ring .ensures) ∙ k1 .checked .given .1)
+    built-faulty (wide (b .args .coords .now)) (b .args .points) (b .args .threshold) (b .args .bytes .now) (b .args .work .now) _ _ (sym (k2 .check-ring .ensures) ∙ k1 .checked .given .1)
 
 returns-2 : tie.Need-returns-2
 returns-2 c =
@@ -27,7 +28,7 @@ returns-2 c =
     let k2 = k1 .before .before .before in
     let k3 = k2 .before .before in
     let b = k3 .before .before .before in
-    built-sound (b .args .coords .now) (b .args .points) (b .args .threshold) (b .args .bytes .now) (b .args .work .now) (sym (k3 .check-ring .ensures) ∙ k2 .enum-told .given .1)
+    built-sound (wide (b .args .coords .now)) (b .args .points) (b .args .threshold) (b .args .bytes .now) (b .args .work .now) _ (sym (k3 .check-ring .ensures) ∙ k2 .enum-told .given .1)
     ∙ k1 .build-sound .ensures
 
 pub build-tree-spec : {M : Type 1} → statement M

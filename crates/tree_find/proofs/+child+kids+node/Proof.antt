@@ -1,3 +1,4 @@
+use Rattle.rings.specs.Ring.{wide}
 use Rattle.tree_find.proofs.Ways.{read-within, child-unread, child-none, child-deep, quad-past, quad-skip, quad-visit, kids-done, kids-more, split-missing, split-leaf, split-kids, split-bad, node-step}
 use Rattle.tree_find.proofs.Pour.{told, then-go, then-stop}
 use Rattle.tree_find.specs.Inner.Walks.{stepOf, pour, below, childrenTo}
@@ -130,8 +131,8 @@ child-returns-6 t c = quad-skip _ _ _ _ _ _ _ _ _ _ _ _ _ _ (sym (c .before .bef
 
 abbrev kids-Inv-loop : kids-lts.InvT-loop
 kids-Inv-loop bytes coords segments y left bounds end at task out₀ p₀ q₀ state₀ out p q state =
-    (pour (stepOf coords task) (childrenTo bytes coords segments y (eqb left 0) (below bytes coords segments y left) bounds end 0 at) state₀ out₀
-    ≡ pour (stepOf coords task) (childrenTo bytes coords segments y (eqb left 0) (below bytes coords segments y left) bounds end q p) state out)
+    (pour (stepOf (wide coords) task) (childrenTo bytes (wide coords) segments y (eqb left 0) (below bytes (wide coords) segments y left) bounds end 0 at) state₀ out₀
+    ≡ pour (stepOf (wide coords) task) (childrenTo bytes (wide coords) segments y (eqb left 0) (below bytes (wide coords) segments y left) bounds end q p) state out)
     × (length out ≡ length out₀)
 
 abbrev kids-μ-loop : kids-lts.MeasureT-loop

@@ -1,3 +1,4 @@
+use Rattle.rings.specs.Ring.{wide}
 use Rattle.tree_find.proofs.Ways.{own-done, own-unread, own-over, own-more, own-full}
 use Rattle.tree_find.proofs.Pour.{told-taken}
 use Rattle.tree_find.specs.Inner.Walks.{stepOf, pour}
@@ -16,7 +17,7 @@ use Rattle.varint.proofs.read_uvarint.Reads as read-uvarint-reads
 
 abbrev Inv-loop : tie.InvT-loop
 Inv-loop bytes coords segments y end n at task out₀ p₀ last₀ left₀ state₀ out p last left state =
-    (pour (stepOf coords task) (ownFrom bytes coords segments y end n 0 at) state₀ out₀ ≡ pour (stepOf coords task) (ownFrom bytes coords segments y end left last p) state out)
+    (pour (stepOf (wide coords) task) (ownFrom bytes (wide coords) segments y end n 0 at) state₀ out₀ ≡ pour (stepOf (wide coords) task) (ownFrom bytes (wide coords) segments y end left last p) state out)
     × (last ≤ segments)
     × (length out ≡ length out₀)
 

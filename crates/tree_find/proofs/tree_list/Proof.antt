@@ -46,15 +46,15 @@ same-length c = search needs
 
 -- src/lib.rt:386:17
 returns : tie.Need-returns
-returns c = listed-sound _ _ _ _ _ (sym (c .before .before .before .before .before .before .before .before .before .check-ring .ensures) ∙ c .before .before .before .before .before .before .before .enum-told .given .1) (sym (c .before .before .before .before .before .before .is-finite .ensures) ∙ c .before .before .before .before .before .if1 .taken) ∙ (rw (c .before .before .before .before .of-ring .ensures) at (c .before .before .list-in .ensures))
+returns c = listed-sound _ _ _ _ _ _ (sym (c .before .before .before .before .before .before .before .before .before .check-ring .ensures) ∙ c .before .before .before .before .before .before .before .enum-told .given .1) (sym (c .before .before .before .before .before .before .is-finite .ensures) ∙ c .before .before .before .before .before .if1 .taken) ∙ (rw (c .before .before .before .before .of-ring .ensures) at (c .before .before .list-in .ensures))
 
 -- src/lib.rt:379:1
 returns-2 : tie.Need-returns-2
-returns-2 c = listed-faulty _ _ _ _ _ _ (sym (c .before .before .before .check-ring .ensures) ∙ c .before .why .given .1)
+returns-2 c = listed-faulty _ _ _ _ _ _ _ (sym (c .before .before .before .check-ring .ensures) ∙ c .before .why .given .1)
 
 -- src/lib.rt:379:1
 returns-3 : tie.Need-returns-3
-returns-3 c = listed-unfit _ _ _ _ _ (sym (c .before .before .before .before .check-ring .ensures) ∙ c .before .before .enum-told .given .1) (sym (c .before .is-finite .ensures) ∙ c .if1 .left)
+returns-3 c = listed-unfit _ _ _ _ _ _ (sym (c .before .before .before .before .check-ring .ensures) ∙ c .before .before .enum-told .given .1) (sym (c .before .is-finite .ensures) ∙ c .if1 .left)
 
 pub tree-list-spec : {M : Type 1} → statement M
 tree-list-spec =

@@ -46,15 +46,15 @@ test-in-requires c κs = let a = sound-ring _ _ (sym (c .before .before .before 
 
 -- src/lib.rt:401:17
 returns : tie.Need-returns
-returns c = (rw (c .before .of-ring .ensures) at (c .test-in .ensures)) ∙ tested-sound _ _ _ _ _ (sym (c .before .before .before .before .before .before .before .check-ring .ensures) ∙ c .before .before .before .before .before .enum-told .given .1) (sym (ap₂ (λ (a b : Bool). a && b) (c .before .before .before .before .is-finite .ensures) (c .before .before .before .is-finite2 .ensures)) ∙ c .before .before .if1 .taken)
+returns c = (rw (c .before .of-ring .ensures) at (c .test-in .ensures)) ∙ tested-sound _ _ _ _ _ _ (sym (c .before .before .before .before .before .before .before .check-ring .ensures) ∙ c .before .before .before .before .before .enum-told .given .1) (sym (ap₂ (λ (a b : Bool). a && b) (c .before .before .before .before .is-finite .ensures) (c .before .before .before .is-finite2 .ensures)) ∙ c .before .before .if1 .taken)
 
 -- src/lib.rt:394:1
 returns-2 : tie.Need-returns-2
-returns-2 c = tested-faulty _ _ _ _ _ _ (sym (c .before .before .before .check-ring .ensures) ∙ c .before .why .given .1)
+returns-2 c = tested-faulty _ _ _ _ _ _ _ (sym (c .before .before .before .check-ring .ensures) ∙ c .before .why .given .1)
 
 -- src/lib.rt:394:1
 returns-3 : tie.Need-returns-3
-returns-3 c = tested-unfit _ _ _ _ _ (sym (c .before .before .before .before .before .check-ring .ensures) ∙ c .before .before .before .enum-told .given .1) (sym (ap₂ (λ (a b : Bool). a && b) (c .before .before .is-finite .ensures) (c .before .is-finite2 .ensures)) ∙ c .if1 .left)
+returns-3 c = tested-unfit _ _ _ _ _ _ (sym (c .before .before .before .before .before .check-ring .ensures) ∙ c .before .before .before .enum-told .given .1) (sym (ap₂ (λ (a b : Bool). a && b) (c .before .before .is-finite .ensures) (c .before .is-finite2 .ensures)) ∙ c .if1 .left)
 
 pub tree-test-spec : {M : Type 1} → statement M
 tree-test-spec =

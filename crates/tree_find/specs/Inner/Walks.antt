@@ -4,16 +4,14 @@ use mathlib.Core.List.{List, [], _∷_}
 use mathlib.Core.Bool.{Bool, true, false, not, cond}
 use lib.Dec.{ltb, eqb}
 use lib.ListN.{length, set}
-use lib.IntN.{ℤ}
 use lib.Ieee.{Float}
 use Rattle.answers.specs.declared.Refusal.the-variants.{NoRoom, Damaged}
 use Rattle.boxes.specs.declared.Point.{Point}
 use Rattle.boxes.specs.declared.Rect.{Rect}
 use Rattle.rays.specs.declared.RaycastResult.{RaycastResult}
 use Rattle.rays.specs.declared.RaycastResult.the-variants.{On, Inside, Neither}
-use Rattle.rays.specs.Raycast.{raycastOf}
-use Rattle.rings.specs.Ring.{segmentAt}
 use Rattle.tree.specs.Search.{Found, End, ends, fails, upto, after, closed, child, node}
+use Rattle.cast_test.specs.Test.{castAt}
 use Rattle.tree_find.specs.declared.Task.{Task}
 use Rattle.tree_find.specs.declared.Task.the-variants.{Listing, Testing}
 use Rattle.tree_find.specs.declared.Seen.{Seen}
@@ -51,13 +49,13 @@ abbrev pub unlessOn : Bool → Seen → Seen → Seen
 unlessOn true seen next = seen
 unlessOn false seen next = next
 
-unfoldable pub testedOf : List ℤ → Point → ℕ → Seen → Seen
-testedOf ring p i seen = unlessOn (seen .on) seen (cast (raycastOf (segmentAt ring i) p) seen)
+unfoldable pub testedOf : (ℕ → Float) → Point → ℕ → Seen → Seen
+testedOf ring p i seen = unlessOn (seen .on) seen (cast (castAt ring i p) seen)
 
-abbrev pub testStep : List ℤ → Point → Step
+abbrev pub testStep : (ℕ → Float) → Point → Step
 testStep ring p i seen room = (Kept (testedOf ring p i seen), room)
 
-abbrev pub stepOf : List ℤ → Task → Step
+abbrev pub stepOf : (ℕ → Float) → Task → Step
 stepOf ring Listing = listStep
 stepOf ring (Testing p) = testStep ring p
 
@@ -94,7 +92,7 @@ then (Stopped why, room) f = (Stopped why, room)
 unfoldable pub finishOf : ℕ → ℕ → Seen → Walk
 finishOf end p seen = cond (eqb p end) (Reached p seen) (Stopped (Damaged p))
 
-module _ (bytes : List ℕ) (ring : List ℤ) (segments : ℕ) (y : Float) where
+module _ (bytes : List ℕ) (ring : ℕ → Float) (segments : ℕ) (y : Float) where
   -- how a node with this many levels below it reads a child
   unfoldable pub below : ℕ → Rect → ℕ → ℕ → Found
   below zero box p end = upto end

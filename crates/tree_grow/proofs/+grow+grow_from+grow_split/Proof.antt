@@ -1,5 +1,6 @@
 -- `tree_grow::grow`, `grow_split` and `grow_from` meet their contracts: the level falls from a node to its quadrants, and the quadrants come one by one.
 -- Assumes nothing.
+use Rattle.rings.specs.Ring.{wide}
 use Rattle.tree_grow.proofs.Records.{grown-deep, grown-few, grown-below}
 use Rattle.tree_grow.proofs.Crops.{stood, cramped, same-tree, none-grew, sprout-some, full-at-once}
 use Rattle.tree_grow.proofs.Splits.{Splits, own-within, own-counted, own-few, shares-fit, quadrants-ask, split-full, split-grew, split-small, node-fits}
@@ -91,7 +92,7 @@ grow-returns-5 t c = same-tree (sprout-some _ _ _ _ (c .before .before .before .
 -- what is known once the quadrant's share is
 next :
     (t : ℕ) (c : grow-from-lts.After-share-of (grow-from-claims t) (grow-from-at t) grow-from.Post)
-    → Next (c .before .before .before .before .args .ring .now) (c .before .before .before .before .args .left) (c .before .before .before .before .args .bounds)
+    → Next (length (c .before .before .before .before .args .ring .now)) (wide (c .before .before .before .before .args .ring .now)) (c .before .before .before .before .args .left) (c .before .before .before .before .args .bounds)
     (c .before .before .before .before .args .shares) (c .before .before .before .before .args .q) (c .before .before .before .before .args .run .now)
     (c .share-of .result)
 next t c =
@@ -101,7 +102,7 @@ next t c =
 -- and once the quadrant stands
 front :
     (t : ℕ) (c : grow-from-lts.After-known-told (grow-from-claims t) (grow-from-at t) grow-from.Post)
-    → Front (c .before .before .before .before .before .before .before .before .before .before .before .before .before .before .before .args .ring .now)
+    → Front (length (c .before .before .before .before .before .before .before .before .before .before .before .before .before .before .before .args .ring .now)) (wide (c .before .before .before .before .before .before .before .before .before .before .before .before .before .before .before .args .ring .now))
     (c .before .before .before .before .before .before .before .before .before .before .before .before .before .before .before .args .left)
     (c .before .before .before .before .before .before .before .before .before .before .before .before .before .before .before .args .bounds)
     (c .before .before .before .before .before .before .before .before .before .before .before .before .before .before .before .args .shares)
@@ -179,7 +180,7 @@ grow-from-returns-4 t c = from-grew (front t (c .before .before .before .before 
 -- what is known once the segments are shared out
 splits :
     (t : ℕ) (c : grow-split-lts.After-share-out (grow-split-claims t) (grow-split-at t) grow-split.Post)
-    → Splits (c .before .before .before .before .args .ring .now) (c .before .before .before .before .args .left) (c .before .before .before .before .args .bounds)
+    → Splits (length (c .before .before .before .before .args .ring .now)) (wide (c .before .before .before .before .args .ring .now)) (c .before .before .before .before .args .left) (c .before .before .before .before .args .bounds)
     (c .before .before .before .before .args .run .now) (c .share-out .result) (c .share-out .last .1 .1 .0) (c .before .before .before .before .args .rest .now)
 splits t c =
     let s = c .before .before .before .before in

@@ -3,7 +3,7 @@ use Prim.Native.Nat.{ℕ, zero, suc, _+_, _-_, _*_, _≤_, _<_}
 use mathlib.Core.Path.{_≡_}
 use mathlib.Core.List.{List, [], _++_}
 use lib.ListN.{length, take, drop}
-use lib.IntN.{ℤ}
+use lib.Ieee.{Float}
 use Rattle.boxes.specs.declared.Rect.{Rect}
 use Rattle.boxes.specs.Quads.{quadBounds}
 use Rattle.varint.specs.Leb128.{encode}
@@ -39,7 +39,7 @@ beside c d =
     }
 
 -- the tree of what arrives, empty where nothing does
-unfoldable pub sprout : List ℤ → ℕ → Rect → List ℕ → Tree
+unfoldable pub sprout : (ℕ → Float) → ℕ → Rect → List ℕ → Tree
 sprout ring left box xs = unlessEmpty xs (grown ring left box xs)
 
 -- how many go to quadrant q
@@ -59,12 +59,12 @@ unfoldable pub sharesFrom : Shares → ℕ → ℕ
 sharesFrom s q = sharesN s (4 - q) q
 
 -- the n quadrants from q on, whose segments stand one behind the other
-unfoldable pub cropN : List ℤ → ℕ → Rect → Shares → ℕ → ℕ → List ℕ → Crop
+unfoldable pub cropN : (ℕ → Float) → ℕ → Rect → Shares → ℕ → ℕ → List ℕ → Crop
 cropN ring left box s zero q run = noCrop
 cropN ring left box s (suc n) q run =
     beside (cropOf (sprout ring left (quadBounds box q) (take (shareOf s q) run))) (cropN ring left box s n (q + 1) (drop (shareOf s q) run))
 
-unfoldable pub cropFrom : List ℤ → ℕ → Rect → Shares → ℕ → List ℕ → Crop
+unfoldable pub cropFrom : (ℕ → Float) → ℕ → Rect → Shares → ℕ → List ℕ → Crop
 cropFrom ring left box s q run = cropN ring left box s (4 - q) q run
 
 -- the trees stand in the room: the segments in node order, the records at the front of what was lent for them

@@ -17,7 +17,7 @@ use Rattle.tree_pack.proofs.node.Kinds as node-kinds
 use Rattle.tree_pack.proofs.+kids+node.Lts-node as node-lts
 use Rattle.tree_pack.proofs.put_head.Reads as put-head-reads
 use Rattle.tree_pack.proofs.put_number.Reads as put-number-reads
-use Rattle.tree_pack.proofs.wide.Reads as wide-reads
+use Rattle.room.proofs.wide.Reads as wide-reads
 use Rattle.tree_pack.proofs.+kids+node.{statement}
 use Rattle.tree_pack.proofs.+kids+node.Tie.{close}
 

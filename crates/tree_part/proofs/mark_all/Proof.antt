@@ -4,6 +4,7 @@ use mathlib.Core.Path.{_≡_, refl, sym, _∙_}
 use mathlib.Core.List.{map}
 use lib.ListN.{length, length-set, drop}
 use Rattle.tree.specs.All.{All}
+use Rattle.rings.specs.Ring.{wide}
 use Rattle.tree_part.specs.Part.{Readable}
 use Rattle.tree_part.specs.Inner.Halves.{marked}
 use Rattle.tree_part.proofs.Turned.{turnedFrom, turned-next, turned-all, all-here, all-next}
@@ -13,7 +14,7 @@ use Rattle.tree_part.proofs.mark_all.Tie as tie
 
 abbrev Inv-loop : tie.InvT-loop
 Inv-loop ring bounds run₀ i₀ run i =
-    (map (marked ring bounds) run₀ ≡ turnedFrom (marked ring bounds) i run) × All (Readable ring) (drop i run) × (length run ≡ length run₀)
+    (map (marked (wide ring) bounds) run₀ ≡ turnedFrom (marked (wide ring) bounds) i run) × All (Readable (length ring)) (drop i run) × (length run ≡ length run₀)
 
 abbrev μ-loop : tie.MeasureT-loop
 μ-loop ring bounds run₀ i₀ run i = length run₀ - i

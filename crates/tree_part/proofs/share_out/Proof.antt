@@ -3,6 +3,7 @@ use mathlib.Core.Path.{sym, ap, ap₂, _∙_}
 use mathlib.Core.List.{List, map}
 use Prim.Native.Nat.{ℕ}
 use borrow.Author.Needs.{needs}
+use Rattle.rings.specs.Ring.{wide}
 use Rattle.tree_part.specs.declared.Shares.{Shares}
 use Rattle.tree_part.specs.Inner.Halves.{lower, classes, classCounts}
 use Rattle.tree_part.proofs.Classes.{classes-parts, counts-shares, classes-fill}
@@ -13,7 +14,7 @@ lift-all-requires : tie.Need-lift-all-requires
 lift-all-requires c κs =
     let m = c .before .before .before in
     let s = m .before .before .before in
-    let a = s .args in rw (m .mark-all .ensures) (classes-fill (a .ring .now) (a .bounds) (a .run .now) (s .pre))
+    let a = s .args in rw (m .mark-all .ensures) (classes-fill (wide (a .ring .now)) (a .bounds) _ (a .run .now) (s .pre))
 
 returns : tie.Need-returns
 returns c =
@@ -24,8 +25,8 @@ returns c =
     let e = ap (map lower) (m .mark-all .ensures) in
     sym
     (ap₂ (λ (r : Shares) (xs : List ℕ). (r, xs))
-    (l .lift-all .ensures .0 ∙ ap classCounts e ∙ counts-shares _ _ _ (s .pre))
-    (t .settle .ensures ∙ l .lift-all .ensures .1 ∙ ap classes e ∙ classes-parts _ _ _ (s .pre)))
+    (l .lift-all .ensures .0 ∙ ap classCounts e ∙ counts-shares _ _ _ _ (s .pre))
+    (t .settle .ensures ∙ l .lift-all .ensures .1 ∙ ap classes e ∙ classes-parts _ _ _ _ (s .pre)))
 
 pub share-out-spec : {M : Type 1} → statement M
 share-out-spec =

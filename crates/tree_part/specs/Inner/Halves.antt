@@ -5,7 +5,7 @@ use mathlib.Core.Path.{_≡_}
 use mathlib.Core.List.{List, [], _∷_, _++_, map}
 use lib.ListN.{length}
 use lib.Dec.{eqb}
-use lib.IntN.{ℤ}
+use lib.Ieee.{Float}
 use Rattle.boxes.specs.declared.Rect.{Rect}
 use Rattle.boxes.specs.declared.Chosen.{Chosen}
 use Rattle.boxes.specs.declared.Chosen.the-variants.{Quadrant, Stays}
@@ -23,7 +23,7 @@ classOf (Quadrant (suc (suc zero))) = 3
 classOf (Quadrant (suc (suc (suc q)))) = 4
 
 -- segment i, marked
-unfoldable pub marked : List ℤ → Rect → ℕ → ℕ
+unfoldable pub marked : (ℕ → Float) → Rect → ℕ → ℕ
 marked ring box i = i + 4096 * classOf (choice ring box i)
 
 abbrev pub lower : ℕ → ℕ
