@@ -12,12 +12,11 @@ use Rattle.boxes.specs.declared.Point.{Point}
 use Rattle.room.specs.Numbers.{count}
 use Rattle.rings.specs.declared.Checked.the-variants.{Sound}
 use Rattle.rings.specs.declared.Listed.the-variants.{Count, Unlisted}
-use Rattle.rings.specs.Ring.{meeting}
+use Rattle.rings.specs.Ring.{wide, meeting}
 use Rattle.rings.specs.I32s.{I32s}
 use Rattle.rings.specs.Checks.{ringChecked}
 use Rattle.rings.specs.Listing.{scanned}
-use Rattle.rings.proofs.Checks.{sound-ring}
-use Rattle.cast_test.specs.Test.{scanTest, scanTested}
+use Rattle.cast_test.specs.Test.{scanTest, scanTestedBy, scanTested}
 use Rattle.stripes_build.specs.declared.StripesStats.{StripesStats}
 use Rattle.stripes_find.specs.declared.StripesListed.the-variants.{StripesFound, StripesUnlisted}
 use Rattle.stripes_find.specs.Listing.{stripesListed}
@@ -25,6 +24,7 @@ use Rattle.stripes_test.specs.Test.{stripesTested}
 use Rattle.stripes_agree.proofs.Demand.{built-sound, demand-3 as stripes-demand}
 use Rattle.stripes_agree.proofs.AsScan.{tests-as-scan}
 use Rattle.tree.specs.Search.{ends}
+use Rattle.tree.proofs.Searchable.{stored}
 use Rattle.tree.proofs.Demand.{tree-found, tree-lists}
 use Rattle.tree_find.specs.declared.TreeListed.the-variants.{TreeFound, TreeUnlisted}
 use Rattle.tree_find.specs.Find.{treeListed, treeTested}
@@ -51,26 +51,27 @@ use Rattle.demand_3.proofs.Choice.{own-built}
 use Rattle.demand_3.proofs.Entries.{stats-entries, row-entries}
 
 -- of a ring that passed its checks the scan's test is what the scan's call answers
-scan-answers : (ring : List ℤ) (points : ℕ) → ringChecked ring points ≡ Sound → (p : Point) (edge : Bool) → scanTest ring points p edge ≡ scanTested ring points p edge
-unfolding scanTested
+scan-answers : (ring : List ℤ) (points : ℕ) → ringChecked ring points ≡ Sound → (p : Point) (edge : Bool) → scanTest (wide ring) points p edge ≡ scanTested ring points p edge
+unfolding scanTestedBy
 scan-answers ring points sound p edge = rw sound
 
 module _ (ring : List ℤ) (points : ℕ) where
   scan : ringChecked ring points ≡ Sound → (y : Float) → finite y ≡ true → (room : List ℕ)
-      → scanned ring points y room ≡ listing Count (Unlisted NoRoom) (meeting ring points y) room
-  scan sound y f room = scan-lists ring points y sound room f ∙ by-scan (meeting ring points y) room
+      → scanned ring points y room ≡ listing Count (Unlisted NoRoom) (meeting (wide ring) points y) room
+  scan sound y f room = scan-lists ring points y sound room f ∙ by-scan (meeting (wide ring) points y) room
 
-  same : ringChecked ring points ≡ Sound → (y : Float) (i : ℕ) → count i (inNodeOrder ring points y) ≡ count i (meeting ring points y)
+  same : ringChecked ring points ≡ Sound → (y : Float) (i : ℕ) → count i (inNodeOrder (wide ring) points y) ≡ count i (meeting (wide ring) points y)
   same sound y i =
-      let few = sound-ring ring points sound .few in
-      sym (ap (count i) (tree-found ring points y few .0)) ∙ tree-lists ring points y few i
+      let few = stored ring points .few sound in
+      let plain = stored ring points .plain sound in
+      sym (ap (count i) (tree-found (wide ring) points y few plain .0)) ∙ tree-lists (wide ring) points y few plain i
 
   module _ (nums : I32s ring) (least height : Float) (stats : StripesStats) (s l : List ℕ) where
     stripes-list : StripesOf ring points least height stats s l → (y : Float) → finite y ≡ true → (room : List ℕ)
         → stripesListed ring points least height (take (stats .stripes * 2) s) (take (stats .entries) l) y room
-        ≡ listing StripesFound (StripesUnlisted NoRoom) (meeting ring points y) room
+        ≡ listing StripesFound (StripesUnlisted NoRoom) (meeting (wide ring) points y) room
     stripes-list (threshold, stripes, list, built) y f room =
-        stripes-demand ring points threshold nums stripes list least height stats s l built y room f ∙ by-stripes (meeting ring points y) room
+        stripes-demand ring points threshold nums stripes list least height stats s l built y room f ∙ by-stripes (meeting (wide ring) points y) room
 
     stripes-test : StripesOf ring points least height stats s l → (p : Point) (edge : Bool)
         → stripesTested ring points least height (take (stats .stripes * 2) s) (take (stats .entries) l) p edge ≡ scanTested ring points p edge
@@ -80,16 +81,16 @@ module _ (ring : List ℤ) (points : ℕ) where
 
   module _ (n : ℕ) (b : List ℕ) where
     tree-list : TreeOf ring points n b → (y : Float) → finite y ≡ true → (room : List ℕ)
-        → treeListed ring points (take n b) y room ≡ listing TreeFound (TreeUnlisted NoRoom) (inNodeOrder ring points y) room
+        → treeListed ring points (take n b) y room ≡ listing TreeFound (TreeUnlisted NoRoom) (inNodeOrder (wide ring) points y) room
     tree-list (threshold, bytes, work, w, built) y f room =
-        ap (λ (xs : List ℕ). treeListed ring points xs y room) (used ring points threshold bytes work n b w built)
-        ∙ lists-all ring points (built-is ring points bytes work n b w threshold built .sound) y room f
-        ∙ by-tree (inNodeOrder ring points y) room 0
+        ap (λ (xs : List ℕ). treeListed ring points xs y room) (used (ringChecked ring points) (wide ring) points threshold (stored ring points) bytes work n b w built)
+        ∙ lists-all (ringChecked ring points) (wide ring) points (stored ring points) (built-is (ringChecked ring points) (wide ring) points bytes work n b w threshold built .sound) y room f
+        ∙ by-tree (inNodeOrder (wide ring) points y) room 0
 
     tree-test : TreeOf ring points n b → (p : Point) (edge : Bool) → treeTested ring points (take n b) p edge ≡ scanTested ring points p edge
     tree-test (threshold, bytes, work, w, built) p edge =
-        tests-built-as-scan ring points threshold bytes work n b w built p edge
-        ∙ scan-answers ring points (built-is ring points bytes work n b w threshold built .sound) p edge
+        tests-built-as-scan (ringChecked ring points) (wide ring) points threshold (stored ring points) bytes work n b w built p edge
+        ∙ scan-answers ring points (built-is (ringChecked ring points) (wide ring) points bytes work n b w threshold built .sound) p edge
 
 padded : (n : ℕ) (xs : List ℤ) → padZ n xs ≡ xs ++ replicate (n - length xs) (pos 0)
 unfolding padZ

@@ -6,7 +6,6 @@ use Prim.Native.Nat.{ℕ, zero, suc, _+_, _-_, _≤_, _<_}
 use native.Mathlib.Omega.{arith}
 use lib.Dec.{leb}
 use lib.ListN.{length, getD, replicate}
-use lib.IntN.{ℤ}
 use lib.Ieee.{Float}
 use Rattle.answers.specs.declared.Refusal.the-variants.{NoRoom}
 use Rattle.room.specs.Numbers.{consIf, keep, upTo}
@@ -47,7 +46,7 @@ keep-rises t (suc n) i = go (t i) (keep-rises t n (i + 1))
     go true later = rises-cons i (keep t n (i + 1)) (λ l. omega (arith, keep-first t n (i + 1) l)) later
     go false later = later
 
-pub meeting-rises : (ring : List ℤ) (points : ℕ) (y : Float) → Rises (meeting ring points y)
+pub meeting-rises : (ring : ℕ → Float) (points : ℕ) (y : Float) → Rises (meeting ring points y)
 unfolding meeting upTo
 meeting-rises ring points y = keep-rises _ _ _
 

@@ -2,7 +2,7 @@
 -- both edge rules and any choice of index per ring built from that ring, the inside answer is one and the same. One field a statement, over the definitions
 -- that the calls promise. `proofs/Demand3.antt` proves them all.
 --
--- Nothing is defined by an index: `meeting` and `plainInside` know only segments. `I32s` says that numbers are i32; any that are lent are (`lent_numbers`).
+-- Nothing is defined by an index: `meeting` and `plainInside` know only segments. `wide ring` is the ring's numbers as floats. `I32s` says that numbers are i32; any that are lent are (`lent_numbers`).
 use mathlib.Core.Path.{_≡_}
 use mathlib.Core.Bool.{Bool, true}
 use mathlib.Core.List.{List, [], _++_}
@@ -16,7 +16,7 @@ use Rattle.room.specs.Numbers.{bit, count}
 use Rattle.boxes.specs.declared.Point.{Point}
 use Rattle.rings.specs.declared.Checked.the-variants.{Sound}
 use Rattle.rings.specs.declared.Listed.the-variants.{Count, Unlisted}
-use Rattle.rings.specs.Ring.{segmentAt, segments, holdsHeight, meeting}
+use Rattle.rings.specs.Ring.{wide, sideAt, segments, holdsHeight, meeting}
 use Rattle.rings.specs.I32s.{I32s}
 use Rattle.rings.specs.Checks.{ringChecked}
 use Rattle.rings.specs.Listing.{scanned}
@@ -80,23 +80,23 @@ IndexesOf sizes coords options t sp s l b =
 
 pub record Demand3 : Type 0 where
   -- ---- 1. `meeting`: each segment of the ring whose own closed height range holds y stands in it once, no other does, and the numbers rise
-  pub each-once : (ring : List ℤ) (points : ℕ) (y : Float) (i : ℕ) → i < segments points
-      → count i (meeting ring points y) ≡ bit (holdsHeight (segmentAt ring i) y)
-  pub no-other : (ring : List ℤ) (points : ℕ) (y : Float) (i : ℕ) → segments points ≤ i → count i (meeting ring points y) ≡ 0
-  pub by-rising-number : (ring : List ℤ) (points : ℕ) (y : Float) → Rises (meeting ring points y)
+  pub each-once : (ring : ℕ → Float) (points : ℕ) (y : Float) (i : ℕ) → i < segments points
+      → count i (meeting ring points y) ≡ bit (holdsHeight (sideAt ring i) y)
+  pub no-other : (ring : ℕ → Float) (points : ℕ) (y : Float) (i : ℕ) → segments points ≤ i → count i (meeting ring points y) ≡ 0
+  pub by-rising-number : (ring : ℕ → Float) (points : ℕ) (y : Float) → Rises (meeting ring points y)
   -- ---- 2. the scan of a ring that passes its checks lists `meeting`, at every finite height
   pub scan-lists : (ring : List ℤ) (points : ℕ) → ringChecked ring points ≡ Sound → (y : Float) → finite y ≡ true → (room : List ℕ)
-      → scanned ring points y room ≡ listing Count (Unlisted NoRoom) (meeting ring points y) room
+      → scanned ring points y room ≡ listing Count (Unlisted NoRoom) (meeting (wide ring) points y) room
   -- ---- 3. so do the stripes that were built from the ring
   pub stripes-list : (ring : List ℤ) (points : ℕ) → I32s ring → (least height : Float) (stats : StripesStats) (s l : List ℕ)
       → StripesOf ring points least height stats s l → (y : Float) → finite y ≡ true → (room : List ℕ)
       → stripesListed ring points least height (take (stats .stripes * 2) s) (take (stats .entries) l) y room
-      ≡ listing StripesFound (StripesUnlisted NoRoom) (meeting ring points y) room
+      ≡ listing StripesFound (StripesUnlisted NoRoom) (meeting (wide ring) points y) room
   -- ---- 4. the tree that was built from the ring lists them in node order, and that is each of them exactly once and no other
   pub tree-lists : (ring : List ℤ) (points n : ℕ) (b : List ℕ) → TreeOf ring points n b → (y : Float) → finite y ≡ true → (room : List ℕ)
-      → treeListed ring points (take n b) y room ≡ listing TreeFound (TreeUnlisted NoRoom) (inNodeOrder ring points y) room
+      → treeListed ring points (take n b) y room ≡ listing TreeFound (TreeUnlisted NoRoom) (inNodeOrder (wide ring) points y) room
   pub same-segments : (ring : List ℤ) (points : ℕ) → ringChecked ring points ≡ Sound → (y : Float) (i : ℕ)
-      → count i (inNodeOrder ring points y) ≡ count i (meeting ring points y)
+      → count i (inNodeOrder (wide ring) points y) ≡ count i (meeting (wide ring) points y)
   -- ---- 5. the ring tests through them are the scan's, for every point and both edge rules
   pub stripes-test : (ring : List ℤ) (points : ℕ) → I32s ring → (least height : Float) (stats : StripesStats) (s l : List ℕ)
       → StripesOf ring points least height stats s l → (p : Point) (edge : Bool)
@@ -128,8 +128,8 @@ pub record Demand3 : Type 0 where
   -- ---- Statistics: "Entries in all equals the sum, over segments, of stripes crossed", of one ring's stripes and of each ring of a built outline.
   -- `sumTo f n` is f 0 + .. + f (n - 1).
   pub entries : (ring : List ℤ) (points : ℕ) (least height : Float) (stats : StripesStats) (s l : List ℕ) → StripesOf ring points least height stats s l
-      → stats .entries ≡ sumTo (stripesCrossed ring (segments points)) (segments points)
+      → stats .entries ≡ sumTo (stripesCrossed (wide ring) (segments points)) (segments points)
   pub built-entries : (sizes : List ℕ) (coords : List ℤ) (options : BuildOptions) (t : List ℕ) (sp : List Float) (s l b : List ℕ)
       → IndexesOf sizes coords options t sp s l b → (k : ℕ) → k < rings sizes → (stats : StripesStats)
       → statsAt t k .«y_stripes» ≡ SomeStripes stats
-      → stats .entries ≡ sumTo (stripesCrossed (ringOf sizes coords k) (segments (sizeAt sizes k))) (segments (sizeAt sizes k))
+      → stats .entries ≡ sumTo (stripesCrossed (wide (ringOf sizes coords k)) (segments (sizeAt sizes k))) (segments (sizeAt sizes k))

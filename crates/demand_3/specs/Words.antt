@@ -4,10 +4,9 @@ use mathlib.Core.List.{List}
 use Prim.Native.Nat.{ℕ, suc, _-_, _<_}
 use lib.Dec.{leb}
 use lib.ListN.{length, getD, replicate}
-use lib.IntN.{ℤ}
 use lib.Ieee.{Float}
 use Rattle.room.specs.Room.{pad}
-use Rattle.rings.specs.Ring.{segmentAt, holdsHeight}
+use Rattle.rings.specs.Ring.{sideAt, holdsHeight}
 use Rattle.stripes_count.specs.Count.{stripeCount}
 use Rattle.stripes_index.specs.Index.{leastY, heightY, firstStripe, lastStripe}
 use Rattle.tree.specs.Tree.{those, inOrder, treeOf}
@@ -23,10 +22,10 @@ listing many short numbers room =
     cond (leb (length numbers) (length room)) (many (length numbers), pad (length room) numbers) (short, replicate (length room) 0)
 
 -- the segments whose own closed height range holds y, in the node order of the ring's tree
-abbrev pub inNodeOrder : List ℤ → ℕ → Float → List ℕ
-inNodeOrder ring points y = those (λ i. holdsHeight (segmentAt ring i) y) (inOrder (treeOf ring points))
+abbrev pub inNodeOrder : (ℕ → Float) → ℕ → Float → List ℕ
+inNodeOrder ring points y = those (λ i. holdsHeight (sideAt ring i) y) (inOrder (treeOf ring points))
 
 -- how many stripes segment i of a ring of n segments crosses, in the ring's own stripes: from that of its low end to that of its high end
-abbrev pub stripesCrossed : List ℤ → ℕ → ℕ → ℕ
+abbrev pub stripesCrossed : (ℕ → Float) → ℕ → ℕ → ℕ
 stripesCrossed ring n i =
     suc (lastStripe ring (leastY ring n) (heightY ring n) (stripeCount ring n) i) - firstStripe ring (leastY ring n) (heightY ring n) (stripeCount ring n) i

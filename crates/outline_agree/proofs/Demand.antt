@@ -1,7 +1,7 @@
 -- Demand 3 for an outline: with the record of its own boxes, and for each ring none, stripes, a tree or both, each built from that ring, the inside
 -- question has one and the same answer, which is that of the segments alone. Assumes nothing.
 use mathlib.Core.Path.{_≡_, refl, sym, ap, ap₂, _∙_}
-use mathlib.Core.Bool.{Bool, true, false, cond, _&&_}
+use mathlib.Core.Bool.{Bool, true, false, _&&_}
 use mathlib.Core.List.{List, [], _++_}
 use Prim.Native.Nat.{ℕ, _+_, _*_, _≤_, _<_}
 use native.Mathlib.Omega.{arith}
@@ -18,7 +18,7 @@ use Rattle.boxes.specs.declared.Rect.{Rect}
 use Rattle.boxes.specs.Boxes.{holds}
 use Rattle.rings.specs.declared.Checked.{Checked}
 use Rattle.rings.specs.declared.Checked.the-variants.{Sound, Faulty}
-use Rattle.rings.specs.Ring.{segments}
+use Rattle.rings.specs.Ring.{wide, segments}
 use Rattle.rings.specs.I32s.{I32s}
 use Rattle.rings.specs.Checks.{whenSound}
 use Rattle.cast_test.specs.Test.{scanOf}
@@ -52,13 +52,13 @@ module _ (outline : Outline) (sizes : List ℕ) (coords : List ℤ) (nums : I32s
     passed : Passed (outline .scale) (outline .mode) sizes coords
     passed = sound-outline true (outline .scale) (outline .mode) sizes coords sound .1
 
-    own-box : (k : ℕ) → k < rings sizes → rectAt boxes k ≡ ringBox (ringOf sizes coords k) (sizeAt sizes k)
+    own-box : (k : ℕ) → k < rings sizes → rectAt boxes k ≡ ringBox (wide (ringOf sizes coords k)) (sizeAt sizes k)
     own-box k h = rect-in sizes coords nums (passed .shaped .counted) k h rest
 
     float-test : (q : Point) → (finite (q .x) && finite (q .y)) ≡ true → (k : ℕ) → k < rings sizes → (e : Bool)
         → floatTest sizes coords boxes x q k e ≡ plainTest sizes coords q k e
     float-test q fit k h e =
-        ap (λ (r : Rect). ringAsked x k r (ringOf sizes coords k) (segments (sizeAt sizes k)) q e) (own-box k h)
+        ap (λ (r : Rect). ringAsked x k r (wide (ringOf sizes coords k)) (segments (sizeAt sizes k)) q e) (own-box k h)
         ∙ asked-as-scan x k (ringOf sizes coords k) (sizeAt sizes k) (ring-sound sizes coords k (passed .shaped) h)
         (ring-nums sizes coords k (passed .shaped .counted) h nums) (own k h) q e fit
 

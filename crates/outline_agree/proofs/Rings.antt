@@ -16,7 +16,7 @@ use Rattle.answers.specs.declared.Answer.the-variants.{No}
 use Rattle.answers.specs.Answers.{said}
 use Rattle.boxes.specs.declared.Point.{Point}
 use Rattle.rings.specs.declared.Checked.the-variants.{Sound}
-use Rattle.rings.specs.Ring.{segments, meeting}
+use Rattle.rings.specs.Ring.{wide, segments, meeting}
 use Rattle.rings.specs.I32s.{I32s}
 use Rattle.rings.specs.Checks.{ringChecked}
 use Rattle.cast_test.specs.Test.{testOf, scanOf}
@@ -25,6 +25,7 @@ use Rattle.stripes_find.specs.Search.{searched as stripesSearched}
 use Rattle.stripes_test.specs.Test.{verdict as stripesVerdict}
 use Rattle.tree.specs.Tree.{treeOf, packed, ringBox}
 use Rattle.tree.specs.Search.{searched as treeSearched}
+use Rattle.tree.proofs.Searchable.{stored}
 use Rattle.tree_find.specs.Find.{verdict as treeVerdict}
 use Rattle.tree_find.proofs.Answers.{tested-sound}
 use Rattle.tree_find.proofs.Demand.{tests-as-scan}
@@ -38,39 +39,39 @@ use Rattle.outline_agree.specs.Own.{OwnStripes, OwnIndex}
 use Rattle.outline_agree.proofs.Lists.{stripes-list}
 
 -- ---- one ring
-module _ (x : Indexes) (k : ℕ) (ring : List ℤ) (points : ℕ) (sound : ringChecked ring points ≡ Sound) (nums : I32s ring) (own : OwnIndex x k ring points)
+module _ (x : Indexes) (k : ℕ) (ring : List ℤ) (points : ℕ) (sound : ringChecked ring points ≡ Sound) (nums : I32s ring) (own : OwnIndex x k (wide ring) points)
     (p : Point) (edge : Bool) (fit : (finite (p .x) && finite (p .y)) ≡ true) where
   -- the scan's
-  meeting-scan : said (testOf ring p edge (meeting ring points (p .y))) ≡ said (scanOf ring (segments points) p edge)
+  meeting-scan : said (testOf (wide ring) p edge (meeting (wide ring) points (p .y))) ≡ said (scanOf (wide ring) (segments points) p edge)
   unfolding meeting
   meeting-scan = refl
 
-  stripes-scan : OwnStripes x k ring (segments points)
-      → stripesVerdict ring p edge (stripesSearched ring (segments points) (leastOf (x .spans) k) (heightOf (x .spans) k) (stripesOf (x .table) (x .stripes) k) (listOf (x .table) (x .list) k) (p .y))
-      ≡ said (scanOf ring (segments points) p edge)
-  stripes-scan o = ap (stripesVerdict ring p edge) (stripes-list ring points (p .y) sound x k nums o) ∙ meeting-scan
+  stripes-scan : OwnStripes x k (wide ring) (segments points)
+      → stripesVerdict (wide ring) p edge (stripesSearched (wide ring) (segments points) (leastOf (x .spans) k) (heightOf (x .spans) k) (stripesOf (x .table) (x .stripes) k) (listOf (x .table) (x .list) k) (p .y))
+      ≡ said (scanOf (wide ring) (segments points) p edge)
+  stripes-scan o = ap (stripesVerdict (wide ring) p edge) (stripes-list ring points (p .y) sound x k nums o) ∙ meeting-scan
 
-  tree-scan : treeVerdict ring p edge (treeSearched (packed (treeOf ring points)) ring (segments points) (p .y) (ringBox ring points)) ≡ said (scanOf ring (segments points) p edge)
+  tree-scan : treeVerdict (wide ring) p edge (treeSearched (packed (treeOf (wide ring) points)) (wide ring) (segments points) (p .y) (ringBox (wide ring) points)) ≡ said (scanOf (wide ring) (segments points) p edge)
   tree-scan =
-      tested-sound ring points (packed (treeOf ring points)) p edge sound fit
-      ∙ tests-as-scan ring points sound p edge
-      ∙ sym (scan-meeting ring points p edge fit)
+      tested-sound (ringChecked ring points) (wide ring) points (packed (treeOf (wide ring) points)) p edge sound fit
+      ∙ tests-as-scan (ringChecked ring points) (wide ring) points (stored ring points) sound p edge
+      ∙ sym (scan-meeting (wide ring) points p edge fit)
 
-  pub asked-as-scan : ringAsked x k (ringBox ring points) ring (segments points) p edge ≡ said (scanOf ring (segments points) p edge)
+  pub asked-as-scan : ringAsked x k (ringBox (wide ring) points) (wide ring) (segments points) p edge ≡ said (scanOf (wide ring) (segments points) p edge)
   asked-as-scan = go (hasStripes (x .table) k) (hasTree (x .table) k) refl refl
     where
       go : (s t : Bool) → hasStripes (x .table) k ≡ s → hasTree (x .table) k ≡ t
-          → ringAsked x k (ringBox ring points) ring (segments points) p edge ≡ said (scanOf ring (segments points) p edge)
+          → ringAsked x k (ringBox (wide ring) points) (wide ring) (segments points) p edge ≡ said (scanOf (wide ring) (segments points) p edge)
       go true t e f =
-          by-stripes x k (ringBox ring points) ring (segments points) p edge e
-          ∙ stripes-read x k (ringBox ring points) ring (segments points) p edge (own .stripes e .lie)
+          by-stripes x k (ringBox (wide ring) points) (wide ring) (segments points) p edge e
+          ∙ stripes-read x k (ringBox (wide ring) points) (wide ring) (segments points) p edge (own .stripes e .lie)
           ∙ stripes-scan (own .stripes e)
       go false true e f =
-          by-tree x k (ringBox ring points) ring (segments points) p edge e f
-          ∙ tree-read x k (ringBox ring points) ring (segments points) p edge (own .lies f)
-          ∙ ap (λ (bytes : List ℕ). treeVerdict ring p edge (treeSearched bytes ring (segments points) (p .y) (ringBox ring points))) (own .tree f)
+          by-tree x k (ringBox (wide ring) points) (wide ring) (segments points) p edge e f
+          ∙ tree-read x k (ringBox (wide ring) points) (wide ring) (segments points) p edge (own .lies f)
+          ∙ ap (λ (bytes : List ℕ). treeVerdict (wide ring) p edge (treeSearched bytes (wide ring) (segments points) (p .y) (ringBox (wide ring) points))) (own .tree f)
           ∙ tree-scan
-      go false false e f = by-scan x k (ringBox ring points) ring (segments points) p edge e f
+      go false false e f = by-scan x k (ringBox (wide ring) points) (wide ring) (segments points) p edge e f
 
 -- a ring of i32 coordinates is one of i32 numbers
 pub ring-nums : (sizes : List ℕ) (coords : List ℤ) (k : ℕ) → Counted sizes coords → k < rings sizes → I32s coords → I32s (ringOf sizes coords k)

@@ -9,7 +9,7 @@ use Rattle.answers.specs.declared.Answer.the-variants.{No}
 use Rattle.answers.specs.Answers.{said}
 use Rattle.boxes.specs.declared.Point.{Point}
 use Rattle.boxes.specs.Boxes.{holds}
-use Rattle.rings.specs.Ring.{segments}
+use Rattle.rings.specs.Ring.{wide, segments}
 use Rattle.rings.specs.Checks.{whenSound}
 use Rattle.cast_test.specs.Test.{scanOf}
 use Rattle.tree.specs.Tree.{ringBox}
@@ -25,11 +25,11 @@ use Rattle.outline_ask.specs.Inside.{throughRings, gridTest}
 module _ (sizes : List ℕ) (coords : List ℤ) where
   -- ring k by its own segments
   abbrev pub plainTest : Point → ℕ → Bool → Answer
-  plainTest p k edge = said (scanOf (ringOf sizes coords k) (segments (sizeAt sizes k)) p edge)
+  plainTest p k edge = said (scanOf (wide (ringOf sizes coords k)) (segments (sizeAt sizes k)) p edge)
 
   -- the exterior's own box
   abbrev pub inExterior : Point → Bool
-  inExterior p = holds (ringBox (ringOf sizes coords 0) (sizeAt sizes 0)) p
+  inExterior p = holds (ringBox (wide (ringOf sizes coords 0)) (sizeAt sizes 0)) p
 
   abbrev pub gridInExterior : ℤ → ℤ → Bool
   gridInExterior px py = gridBoxHolds (boxNumbers (ringOf sizes coords 0) (sizeAt sizes 0)) 0 px py

@@ -10,7 +10,7 @@ use Rattle.answers.specs.declared.Answer.the-variants.{Yes, No, Refused}
 use Rattle.answers.specs.Answers.{said}
 use Rattle.boxes.specs.declared.Point.{Point}
 use Rattle.boxes.specs.Boxes.{holds}
-use Rattle.rings.specs.Ring.{segments}
+use Rattle.rings.specs.Ring.{wide, segments}
 use Rattle.rings.specs.Checks.{whenSound}
 use Rattle.grid.specs.Rings.{gridInside}
 use Rattle.outline_check.specs.declared.Outline.{Outline}
@@ -47,7 +47,7 @@ throughRings inBox test count edge =
 
 -- ring k's test at a float place, through its index; the box of its tree is the ring's own, as the record has it
 abbrev pub floatTest : List ℕ → List ℤ → List ℤ → Indexes → Point → ℕ → Bool → Answer
-floatTest sizes coords boxes x p k edge = ringAsked x k (rectAt boxes k) (ringOf sizes coords k) (segments (sizeAt sizes k)) p edge
+floatTest sizes coords boxes x p k edge = ringAsked x k (rectAt boxes k) (wide (ringOf sizes coords k)) (segments (sizeAt sizes k)) p edge
 
 -- "without index"
 abbrev pub gridTest : List ℕ → List ℤ → ℤ → ℤ → ℕ → Bool → Answer

@@ -18,6 +18,7 @@ use Rattle.outline_index.specs.declared.BuildOptions.{BuildOptions}
 use Rattle.outline_index.specs.Pools.{every}
 use Rattle.outline_index.specs.Parts.{noHeight, spanPart, fewStripes, enoughWork}
 use Rattle.outline_index.proofs.Pools.{turn-like}
+use Rattle.rings.specs.Ring.{wide}
 use Rattle.outline_build.specs.declared.Built.{Built}
 use Rattle.outline_build.specs.declared.Built.the-variants.{Indexed, Unbuilt}
 use Rattle.outline_build.specs.Indexes.{Outcome, zeroed, rowAt, calls, roomy, indexed, indexesBuilt}
@@ -37,7 +38,7 @@ unfolding every
 every-like t t′ zero h = refl
 every-like t t′ (suc m) h = ap₂ _&&_ (every-like t t′ m h) (h m)
 
-work-room : (options : BuildOptions) (ring : List ℤ) (points : ℕ) (w w′ : List ℕ) → length w ≡ length w′ → enoughWork options ring points w ≡ enoughWork options ring points w′
+work-room : (options : BuildOptions) (ring : ℕ → Float) (points : ℕ) (w w′ : List ℕ) → length w ≡ length w′ → enoughWork options ring points w ≡ enoughWork options ring points w′
 unfolding enoughWork
 work-room options ring points w w′ e = rw e
 
@@ -58,7 +59,7 @@ module _ (options : BuildOptions) (sizes : List ℕ) (coords : List ℤ) (T : Li
           (omega (
             arith,
             roomy-is options sizes coords T F S L B W y .heights,
-            turn-like (λ j. spanPart options (ringOf sizes coords j) (sizeAt sizes j)) 2 (rings sizes) (λ j. refl),
+            turn-like (λ j. spanPart options (wide (ringOf sizes coords j)) (sizeAt sizes j)) 2 (rings sizes) (λ j. refl),
           ))
       go false y = refl
 
@@ -109,7 +110,7 @@ module _ (options : BuildOptions) (sizes : List ℕ) (coords : List ℤ) (T : Li
       indexed-room = rw (p, q, u, v, x, y, every-like (calls options sizes coords w) (calls options sizes coords W) (rings sizes) called)
         where
           called : (k : ℕ) → calls options sizes coords w k ≡ calls options sizes coords W k
-          called k = ap (λ (c : Bool). fewStripes options (ringOf sizes coords k) (sizeAt sizes k) && c) (work-room options (ringOf sizes coords k) (sizeAt sizes k) w W y)
+          called k = ap (λ (c : Bool). fewStripes options (wide (ringOf sizes coords k)) (sizeAt sizes k) && c) (work-room options (wide (ringOf sizes coords k)) (sizeAt sizes k) w W y)
 
 -- rooms that were filled with zeros are zero
 pub cleared : (T : List ℕ) (F : List Float) (S L B W : List ℕ) (r : Built) (t : List ℕ) (f : List Float) (s l b w : List ℕ)

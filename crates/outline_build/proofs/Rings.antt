@@ -13,7 +13,7 @@ use lib.Ieee.{Float}
 use borrow.Author.Tests.{leb-true}
 use Rattle.room.specs.Room.{pad, write}
 use Rattle.room.proofs.Write.{write-eq}
-use Rattle.rings.specs.Ring.{segments}
+use Rattle.rings.specs.Ring.{wide, segments}
 use Rattle.rings.proofs.Checks.{both}
 use Rattle.outline_check.specs.Outline.{rings, sizeAt, ringOf}
 use Rattle.outline_check.proofs.Starts.{start-none, start-more}
@@ -65,19 +65,19 @@ module _ (options : BuildOptions) (sizes : List ℕ) (coords : List ℤ) (T : Li
   standing-first z =
       record {
         start = sym (ap (λ (x : ℕ). 2 * x) (start-none sizes));
-        stripes-at = sym (ap length (turn-none (λ j. stripesPart options (ringOf sizes coords j) (sizeAt sizes j))));
-        list-at = sym (ap length (turn-none (λ j. listPart options (ringOf sizes coords j) (sizeAt sizes j))));
-        bytes-at = sym (ap length (turn-none (λ j. bytesPart options (ringOf sizes coords j) (sizeAt sizes j))));
+        stripes-at = sym (ap length (turn-none (λ j. stripesPart options (wide (ringOf sizes coords j)) (sizeAt sizes j))));
+        list-at = sym (ap length (turn-none (λ j. listPart options (wide (ringOf sizes coords j)) (sizeAt sizes j))));
+        bytes-at = sym (ap length (turn-none (λ j. bytesPart options (wide (ringOf sizes coords j)) (sizeAt sizes j))));
         stripes-fit = omega arith;
         list-fit = omega arith;
         bytes-fit = omega arith;
         rows = none-yet (length T) (rowAt options sizes coords) T refl (z .rows);
         heights =
             z .heights ∙ sym (pad-none noHeight (length F))
-            ∙ ap (padWith noHeight (length F)) (sym (turn-none (λ j. spanPart options (ringOf sizes coords j) (sizeAt sizes j))));
-        pairs = none-yet (length S) (λ j. stripesPart options (ringOf sizes coords j) (sizeAt sizes j)) S refl (z .pairs);
-        entries = none-yet (length L) (λ j. listPart options (ringOf sizes coords j) (sizeAt sizes j)) L refl (z .entries);
-        packed = none-yet (length B) (λ j. bytesPart options (ringOf sizes coords j) (sizeAt sizes j)) B refl (z .packed);
+            ∙ ap (padWith noHeight (length F)) (sym (turn-none (λ j. spanPart options (wide (ringOf sizes coords j)) (sizeAt sizes j))));
+        pairs = none-yet (length S) (λ j. stripesPart options (wide (ringOf sizes coords j)) (sizeAt sizes j)) S refl (z .pairs);
+        entries = none-yet (length L) (λ j. listPart options (wide (ringOf sizes coords j)) (sizeAt sizes j)) L refl (z .entries);
+        packed = none-yet (length B) (λ j. bytesPart options (wide (ringOf sizes coords j)) (sizeAt sizes j)) B refl (z .packed);
         numbers = z .numbers;
         called = every-none (calls options sizes coords W);
       }
@@ -85,8 +85,8 @@ module _ (options : BuildOptions) (sizes : List ℕ) (coords : List ℤ) (T : Li
   -- what is known between two rings, put to use
   module _ (k : ℕ) (at : Places) (from : ℕ) (t : List ℕ) (f : List Float) (s l b w : List ℕ) (st : Standing options sizes coords T F S L B W k at from t f s l b w)
       (zw : W ≡ replicate (length W) 0) where
-    abbrev ring : List ℤ
-    ring = ringOf sizes coords k
+    abbrev ring : ℕ → Float
+    ring = wide (ringOf sizes coords k)
 
     abbrev points : ℕ
     points = sizeAt sizes k
@@ -154,9 +154,9 @@ module _ (options : BuildOptions) (sizes : List ℕ) (coords : List ℤ) (T : Li
           let fl : at .list + length (listPart options ring points) ≤ length l = leb-true _ _ (two .1) in
           let fb : at .bytes + length (bytesPart options ring points) ≤ length b = leb-true _ _ (tree .1) in
           let long = stripes-length options ring points at in
-          let ts = turn-more (λ j. stripesPart options (ringOf sizes coords j) (sizeAt sizes j)) k in
-          let tl = turn-more (λ j. listPart options (ringOf sizes coords j) (sizeAt sizes j)) k in
-          let tb = turn-more (λ j. bytesPart options (ringOf sizes coords j) (sizeAt sizes j)) k in
+          let ts = turn-more (λ j. stripesPart options (wide (ringOf sizes coords j)) (sizeAt sizes j)) k in
+          let tl = turn-more (λ j. listPart options (wide (ringOf sizes coords j)) (sizeAt sizes j)) k in
+          let tb = turn-more (λ j. bytesPart options (wide (ringOf sizes coords j)) (sizeAt sizes j)) k in
           record {
             gain = d .1;
             few = one .0;
@@ -170,15 +170,15 @@ module _ (options : BuildOptions) (sizes : List ℕ) (coords : List ℤ) (T : Li
             pairs =
                 d .2
                 ∙ used-more (length S) (at .stripes) (stripesTo options sizes coords k) s (st .pairs) (st .stripes-at) (st .stripes-fit) (stripesPart options ring points)
-                ∙ ap (pad (length S)) (sym (turn-next (λ j. stripesPart options (ringOf sizes coords j) (sizeAt sizes j)) k));
+                ∙ ap (pad (length S)) (sym (turn-next (λ j. stripesPart options (wide (ringOf sizes coords j)) (sizeAt sizes j)) k));
             entries =
                 d .3
                 ∙ used-more (length L) (at .list) (listTo options sizes coords k) l (st .entries) (st .list-at) (st .list-fit) (listPart options ring points)
-                ∙ ap (pad (length L)) (sym (turn-next (λ j. listPart options (ringOf sizes coords j) (sizeAt sizes j)) k));
+                ∙ ap (pad (length L)) (sym (turn-next (λ j. listPart options (wide (ringOf sizes coords j)) (sizeAt sizes j)) k));
             packed =
                 d .4
                 ∙ used-more (length B) (at .bytes) (bytesTo options sizes coords k) b (st .packed) (st .bytes-at) (st .bytes-fit) (bytesPart options ring points)
-                ∙ ap (pad (length B)) (sym (turn-next (λ j. bytesPart options (ringOf sizes coords j) (sizeAt sizes j)) k));
+                ∙ ap (pad (length B)) (sym (turn-next (λ j. bytesPart options (wide (ringOf sizes coords j)) (sizeAt sizes j)) k));
             numbers = d .5 ∙ st .numbers;
           }
 
@@ -204,13 +204,13 @@ module _ (options : BuildOptions) (sizes : List ℕ) (coords : List ℤ) (T : Li
         spans-long =
             ap length (st .heights)
             ∙ pad-length noHeight (length F) (spansTo options sizes coords k)
-            (omega (arith, turn-like (λ j. spanPart options (ringOf sizes coords j) (sizeAt sizes j)) 2 k (λ j. refl)))
+            (omega (arith, turn-like (λ j. spanPart options (wide (ringOf sizes coords j)) (sizeAt sizes j)) 2 k (λ j. refl)))
 
         heights-next : f′ ≡ padWith noHeight (length F) (spansTo options sizes coords (k + 1))
         heights-next =
             heights
             ∙ write-eq f (2 * k) (g .least ∷ g .height ∷ []) (omega (arith, spans-long))
-            ∙ over noHeight (length F) k 2 (λ j. spanPart options (ringOf sizes coords j) (sizeAt sizes j)) f (g .least ∷ g .height ∷ []) (λ j. refl) (st .heights)
+            ∙ over noHeight (length F) k 2 (λ j. spanPart options (wide (ringOf sizes coords j)) (sizeAt sizes j)) f (g .least ∷ g .height ∷ []) (λ j. refl) (st .heights)
             (ap (λ (x : Gain). x .least ∷ x .height ∷ []) (fitting .gain)) (omega arith)
 
         pub standing-next : Standing options sizes coords T F S L B W (k + 1)
@@ -243,7 +243,7 @@ module _ (options : BuildOptions) (sizes : List ℕ) (coords : List ℤ) (T : Li
         let n = rings sizes in (
           roomy-all options sizes coords T F S L B W
               (omega (arith, turn-like (rowAt options sizes coords) 10 n (λ j. refl)))
-              (omega (arith, turn-like (λ j. spanPart options (ringOf sizes coords j) (sizeAt sizes j)) 2 n (λ j. refl)))
+              (omega (arith, turn-like (λ j. spanPart options (wide (ringOf sizes coords j)) (sizeAt sizes j)) 2 n (λ j. refl)))
               (omega (arith, st .stripes-at, st .stripes-fit, ap (λ (j : ℕ). length (stripesTo options sizes coords j)) e))
               (omega (arith, st .list-at, st .list-fit, ap (λ (j : ℕ). length (listTo options sizes coords j)) e))
               (omega (arith, st .bytes-at, st .bytes-fit, ap (λ (j : ℕ). length (bytesTo options sizes coords j)) e))

@@ -16,6 +16,7 @@ use Rattle.outline_index.specs.Pools.{inTurn, every}
 use Rattle.outline_index.specs.Parts.{stripesPart, listPart, bytesPart, fewStripes, enoughWork}
 use Rattle.outline_index.specs.Inner.Step.{stripesFit, treeFits}
 use Rattle.outline_index.proofs.Pools.{turn-rises, turn-more, every-one}
+use Rattle.rings.specs.Ring.{wide}
 use Rattle.outline_build.specs.Indexes.{stripesTo, listTo, bytesTo, spansTo, rowsTo, calls, roomy}
 
 -- parts that fit in all fit up to each ring
@@ -60,26 +61,26 @@ module _ (options : BuildOptions) (sizes : List ℕ) (coords : List ℤ) (T : Li
     step-fits : at .stripes ≡ length (stripesTo options sizes coords k) → at .list ≡ length (listTo options sizes coords k)
         → at .bytes ≡ length (bytesTo options sizes coords k) → length s ≡ length S → length l ≡ length L → length b ≡ length B → w ≡ W
         → Enough
-        → (stripesFit options (ringOf sizes coords k) (sizeAt sizes k) at s l && treeFits options (ringOf sizes coords k) (sizeAt sizes k) at b w) ≡ true
+        → (stripesFit options (wide (ringOf sizes coords k)) (sizeAt sizes k) at s l && treeFits options (wide (ringOf sizes coords k)) (sizeAt sizes k) at b w) ≡ true
     step-fits p q r ls ll lb same e =
         let one = every-one (calls options sizes coords W) k (rings sizes) h (e .called) in
-        let two = both (fewStripes options (ringOf sizes coords k) (sizeAt sizes k)) (enoughWork options (ringOf sizes coords k) (sizeAt sizes k) W) one in
+        let two = both (fewStripes options (wide (ringOf sizes coords k)) (sizeAt sizes k)) (enoughWork options (wide (ringOf sizes coords k)) (sizeAt sizes k) W) one in
         rw (
           two .0,
-          le-leb (at .stripes + length (stripesPart options (ringOf sizes coords k) (sizeAt sizes k))) (length s)
-              (omega (arith, fits-to (λ j. stripesPart options (ringOf sizes coords j) (sizeAt sizes j)) k (rings sizes) (length S) (at .stripes) h p (e .pairs))),
-          le-leb (at .list + length (listPart options (ringOf sizes coords k) (sizeAt sizes k))) (length l)
-              (omega (arith, fits-to (λ j. listPart options (ringOf sizes coords j) (sizeAt sizes j)) k (rings sizes) (length L) (at .list) h q (e .entries))),
+          le-leb (at .stripes + length (stripesPart options (wide (ringOf sizes coords k)) (sizeAt sizes k))) (length s)
+              (omega (arith, fits-to (λ j. stripesPart options (wide (ringOf sizes coords j)) (sizeAt sizes j)) k (rings sizes) (length S) (at .stripes) h p (e .pairs))),
+          le-leb (at .list + length (listPart options (wide (ringOf sizes coords k)) (sizeAt sizes k))) (length l)
+              (omega (arith, fits-to (λ j. listPart options (wide (ringOf sizes coords j)) (sizeAt sizes j)) k (rings sizes) (length L) (at .list) h q (e .entries))),
           same,
           two .1,
-          le-leb (at .bytes + length (bytesPart options (ringOf sizes coords k) (sizeAt sizes k))) (length b)
-              (omega (arith, fits-to (λ j. bytesPart options (ringOf sizes coords j) (sizeAt sizes j)) k (rings sizes) (length B) (at .bytes) h r (e .packed))),
+          le-leb (at .bytes + length (bytesPart options (wide (ringOf sizes coords k)) (sizeAt sizes k))) (length b)
+              (omega (arith, fits-to (λ j. bytesPart options (wide (ringOf sizes coords j)) (sizeAt sizes j)) k (rings sizes) (length B) (at .bytes) h r (e .packed))),
         )
 
     -- so where the step is short, the room is
     pub step-lacks : at .stripes ≡ length (stripesTo options sizes coords k) → at .list ≡ length (listTo options sizes coords k)
         → at .bytes ≡ length (bytesTo options sizes coords k) → length s ≡ length S → length l ≡ length L → length b ≡ length B → w ≡ W
-        → (stripesFit options (ringOf sizes coords k) (sizeAt sizes k) at s l && treeFits options (ringOf sizes coords k) (sizeAt sizes k) at b w) ≡ false
+        → (stripesFit options (wide (ringOf sizes coords k)) (sizeAt sizes k) at s l && treeFits options (wide (ringOf sizes coords k)) (sizeAt sizes k) at b w) ≡ false
         → roomy T F S L B W options sizes coords ≡ false
     step-lacks p q r ls ll lb same e = go (roomy T F S L B W options sizes coords) refl
       where

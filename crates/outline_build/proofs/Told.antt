@@ -9,9 +9,10 @@ use lib.ListN.{length, getD, List·getD-append}
 use lib.Seq.{getD-append-add}
 use lib.IntN.{ℤ}
 use lib.Dec.{eqb}
+use lib.Ieee.{Float}
 use Rattle.room.specs.Room.{pad}
 use Rattle.room.proofs.Cases.{lt-or}
-use Rattle.rings.specs.Ring.{segments}
+use Rattle.rings.specs.Ring.{wide, segments}
 use Rattle.outline_check.specs.Outline.{rings, sizeAt, ringOf}
 use Rattle.outline_index.specs.declared.BuildOptions.{BuildOptions}
 use Rattle.outline_index.specs.Pools.{inTurn}
@@ -44,7 +45,7 @@ rowStats row =
       «y_stripes» = toldBy (eqb (getD row 2 0 % 2) 1) (record { segments = getD row 0 0; stripes = getD row 4 0; entries = getD row 6 0; fullest = getD row 7 0 });
     }
 
-row-tells : (options : BuildOptions) (ring : List ℤ) (points s l b : ℕ) → rowStats (rowOf options ring points s l b) ≡ ringStats options ring points
+row-tells : (options : BuildOptions) (ring : ℕ → Float) (points s l b : ℕ) → rowStats (rowOf options ring points s l b) ≡ ringStats options ring points
 unfolding rowStats ringStats stripesIn entriesIn fullestIn listPart
 row-tells options ring points s l b = go (hasStripes options (segments points)) (hasTree options (segments points)) (saysUnder options (segments points)) refl refl refl
   where
@@ -70,7 +71,7 @@ module _ (options : BuildOptions) (sizes : List ℕ) (coords : List ℤ) (room k
       ∙ row-get (rowAt options sizes coords) (λ j. refl) k i (rings sizes) h l
 
   -- ring k's statistics, as `index_stats` tells them
-  pub told : statsAt table k ≡ ringStats options (ringOf sizes coords k) (sizeAt sizes k)
+  pub told : statsAt table k ≡ ringStats options (wide (ringOf sizes coords k)) (sizeAt sizes k)
   unfolding statsAt rowStats
   told =
       rw (
@@ -81,5 +82,5 @@ module _ (options : BuildOptions) (sizes : List ℕ) (coords : List ℤ) (room k
         number-is 6 (omega arith),
         number-is 7 (omega arith),
       )
-      (row-tells options (ringOf sizes coords k) (sizeAt sizes k) (length (stripesTo options sizes coords k)) (length (listTo options sizes coords k))
+      (row-tells options (wide (ringOf sizes coords k)) (sizeAt sizes k) (length (stripesTo options sizes coords k)) (length (listTo options sizes coords k))
       (length (bytesTo options sizes coords k)))

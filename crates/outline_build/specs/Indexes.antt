@@ -15,33 +15,34 @@ use Rattle.outline_check.specs.Rules.{shapeChecked}
 use Rattle.outline_index.specs.declared.BuildOptions.{BuildOptions}
 use Rattle.outline_index.specs.Pools.{inTurn, padWith, every}
 use Rattle.outline_index.specs.Parts.{noHeight, stripesPart, listPart, bytesPart, spanPart, rowOf, fewStripes, enoughWork}
+use Rattle.rings.specs.Ring.{wide}
 use Rattle.outline_build.specs.declared.Built.{Built}
 use Rattle.outline_build.specs.declared.Built.the-variants.{Indexed, Unbuilt}
 
 module _ (options : BuildOptions) (sizes : List ℕ) (coords : List ℤ) where
   -- the parts of rings 0 to k - 1, in ring order
   abbrev pub stripesTo : ℕ → List ℕ
-  stripesTo k = inTurn (λ j. stripesPart options (ringOf sizes coords j) (sizeAt sizes j)) k
+  stripesTo k = inTurn (λ j. stripesPart options (wide (ringOf sizes coords j)) (sizeAt sizes j)) k
 
   abbrev pub listTo : ℕ → List ℕ
-  listTo k = inTurn (λ j. listPart options (ringOf sizes coords j) (sizeAt sizes j)) k
+  listTo k = inTurn (λ j. listPart options (wide (ringOf sizes coords j)) (sizeAt sizes j)) k
 
   abbrev pub bytesTo : ℕ → List ℕ
-  bytesTo k = inTurn (λ j. bytesPart options (ringOf sizes coords j) (sizeAt sizes j)) k
+  bytesTo k = inTurn (λ j. bytesPart options (wide (ringOf sizes coords j)) (sizeAt sizes j)) k
 
   abbrev pub spansTo : ℕ → List Float
-  spansTo k = inTurn (λ j. spanPart options (ringOf sizes coords j) (sizeAt sizes j)) k
+  spansTo k = inTurn (λ j. spanPart options (wide (ringOf sizes coords j)) (sizeAt sizes j)) k
 
   -- ring k's row: its parts start behind those of the rings before it
   abbrev pub rowAt : ℕ → List ℕ
-  rowAt k = rowOf options (ringOf sizes coords k) (sizeAt sizes k) (length (stripesTo k)) (length (listTo k)) (length (bytesTo k))
+  rowAt k = rowOf options (wide (ringOf sizes coords k)) (sizeAt sizes k) (length (stripesTo k)) (length (listTo k)) (length (bytesTo k))
 
   abbrev pub rowsTo : ℕ → List ℕ
   rowsTo k = inTurn rowAt k
 
   -- what ring k calls for, beside room for its parts
   abbrev pub calls : List ℕ → ℕ → Bool
-  calls work k = fewStripes options (ringOf sizes coords k) (sizeAt sizes k) && enoughWork options (ringOf sizes coords k) (sizeAt sizes k) work
+  calls work k = fewStripes options (wide (ringOf sizes coords k)) (sizeAt sizes k) && enoughWork options (wide (ringOf sizes coords k)) (sizeAt sizes k) work
 
 -- the answer, and the table, spans, stripes, list, bytes and work room
 abbrev pub Outcome : Type 0

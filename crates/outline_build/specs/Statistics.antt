@@ -4,7 +4,7 @@ use mathlib.Core.List.{List}
 use mathlib.Core.Bool.{Bool, true, false}
 use lib.Dec.{eqb}
 use lib.ListN.{getD}
-use lib.IntN.{ℤ}
+use lib.Ieee.{Float}
 use Rattle.rings.specs.Ring.{segments}
 use Rattle.stripes_build.specs.declared.StripesStats.{StripesStats}
 use Rattle.stripes_build.specs.Build.{statsOf}
@@ -41,7 +41,7 @@ module _ (table : List ℕ) (k : ℕ) where
       }
 
 -- what is true of a ring that was built by these options
-unfoldable pub ringStats : BuildOptions → List ℤ → ℕ → RingBuildStats
+unfoldable pub ringStats : BuildOptions → (ℕ → Float) → ℕ → RingBuildStats
 ringStats options ring points =
     record {
       «segment_count» = segments points;

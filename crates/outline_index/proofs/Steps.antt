@@ -6,14 +6,14 @@ use mathlib.Core.Bool.{Bool, true, false, cond, _&&_}
 use native.Mathlib.Omega.{arith}
 use lib.ListN.{length, take, drop, replicate, length-drop}
 use lib.Dec.{leb}
-use lib.IntN.{ℤ}
 use borrow.Author.Tests.{le-leb}
 use borrow.Rule.Slice.PartMut.{putMid}
+use lib.Ieee.{Float}
 use Rattle.answers.specs.declared.Refusal.the-variants.{NoRoom}
 use Rattle.room.specs.Room.{pad}
+use Rattle.rings.specs.declared.Checked.{Checked}
 use Rattle.rings.specs.declared.Checked.the-variants.{Sound}
 use Rattle.rings.specs.Ring.{segments}
-use Rattle.rings.specs.Checks.{ringChecked}
 use Rattle.stripes_count.specs.Count.{stripeCount}
 use Rattle.stripes_index.specs.Index.{leastY, heightY, listOf, partOf}
 use Rattle.stripes_index.proofs.Pairs.{pairs-length}
@@ -40,7 +40,7 @@ module _ {A : Type 0} (a b : ℕ) (S L : List ℕ) where
   abbrev pub put : A × List ℕ × List ℕ → A × List ℕ × List ℕ
   put o = (o .0, take a S ++ o .1, take b L ++ o .2)
 
-module _ (options : BuildOptions) (ring : List ℤ) (points : ℕ) (at : Places) where
+module _ (options : BuildOptions) (ring : ℕ → Float) (points : ℕ) (at : Places) where
   module _ (S L : List ℕ) (zs : ZeroFrom (at .stripes) S) (zl : ZeroFrom (at .list) L) where
     pub stripes-none : hasStripes options (segments points) ≡ false → stripesPut options ring points at S L ≡ (Unstriped, S, L)
     unfolding stripesPut stripesPart listPart fewStripes
@@ -89,15 +89,15 @@ module _ (options : BuildOptions) (ring : List ℤ) (points : ℕ) (at : Places)
         go false = ap₂ (λ (s l : List ℕ). (StripesRefused NoRoom, s, l)) (sym (rest-zero (at .stripes) S zs)) (sym (rest-zero (at .list) L zl))
 
     -- built in the rests, which come back
-    pub stripes-put : hasStripes options (segments points) ≡ true → ringChecked ring points ≡ Sound → (r : StripesBuilt) (s l : List ℕ)
-        → striping.stripesBuilt ring points 0 (take (length S - at .stripes) (drop (at .stripes) S)) (take (length L - at .list) (drop (at .list) L)) ≡ (r, s, l)
+    pub stripes-put : (checked : Checked) → hasStripes options (segments points) ≡ true → checked ≡ Sound → (r : StripesBuilt) (s l : List ℕ)
+        → striping.stripesBuiltBy checked ring points 0 (take (length S - at .stripes) (drop (at .stripes) S)) (take (length L - at .list) (drop (at .list) L)) ≡ (r, s, l)
         → stripesPut options ring points at S L ≡ (r, putMid (at .stripes) (length S - at .stripes) S s, putMid (at .list) (length L - at .list) L l)
-    stripes-put has sound r s l e =
+    stripes-put checked has sound r s l e =
         stripes-rest has
         ∙ ap (put (at .stripes) (at .list) S L)
-        (sym (built-sound ring points 0 (drop (at .stripes) S) (drop (at .list) L) sound
+        (sym (built-sound checked ring points 0 (drop (at .stripes) S) (drop (at .list) L) sound
         ∙ from-reached ring (segments points) 0 (drop (at .stripes) S) (drop (at .list) L) (omega arith))
-        ∙ ap₂ (striping.stripesBuilt ring points 0) (sym (rest-is (at .stripes) S)) (sym (rest-is (at .list) L))
+        ∙ ap₂ (striping.stripesBuiltBy checked ring points 0) (sym (rest-is (at .stripes) S)) (sym (rest-is (at .list) L))
         ∙ e)
         ∙ ap₂ (λ (x y : List ℕ). (r, x, y)) (sym (rest-back (at .stripes) S s (zs .0))) (sym (rest-back (at .list) L l (zl .0)))
 
@@ -133,16 +133,16 @@ module _ (options : BuildOptions) (ring : List ℤ) (points : ℕ) (at : Places)
         go true = ap₂ (λ (b w : List ℕ). (Packed (length bytes), b, w)) (sym (behind-rest (at .bytes) B bytes (zb .0))) zw
         go false = ap₂ (λ (b w : List ℕ). (TreeRefused NoRoom, b, w)) (sym (rest-zero (at .bytes) B zb)) zw
 
-    pub tree-put : hasTree options (segments points) ≡ true → ringChecked ring points ≡ Sound → (r : TreeBuilt) (b w : List ℕ)
-        → packing.treeBuilt ring points 0 (take (length B - at .bytes) (drop (at .bytes) B)) W ≡ (r, b, w)
+    pub tree-put : (checked : Checked) → hasTree options (segments points) ≡ true → checked ≡ Sound → (r : TreeBuilt) (b w : List ℕ)
+        → packing.treeBuiltBy checked ring points 0 (take (length B - at .bytes) (drop (at .bytes) B)) W ≡ (r, b, w)
         → treePut options ring points at B W ≡ (r, putMid (at .bytes) (length B - at .bytes) B b, w)
-    tree-put has sound r b w e =
+    tree-put checked has sound r b w e =
         tree-rest has
-        ∙ ap putOne (sym (built-reached (drop (at .bytes) B)) ∙ ap (λ (x : List ℕ). packing.treeBuilt ring points 0 x W) (sym (rest-is (at .bytes) B)) ∙ e)
+        ∙ ap putOne (sym (built-reached (drop (at .bytes) B)) ∙ ap (λ (x : List ℕ). packing.treeBuiltBy checked ring points 0 x W) (sym (rest-is (at .bytes) B)) ∙ e)
         ∙ ap (λ (x : List ℕ). (r, x, w)) (sym (rest-back (at .bytes) B b (zb .0)))
       where
-        built-reached : (x : List ℕ) → packing.treeBuilt ring points 0 x W ≡ packing.packedIn ring points x W
-        built-reached x = built-sound-tree ring points 0 x W sound ∙ from-reached-tree ring points 0 x W (omega arith)
+        built-reached : (x : List ℕ) → packing.treeBuiltBy checked ring points 0 x W ≡ packing.packedIn ring points x W
+        built-reached x = built-sound-tree ring points 0 x W checked sound ∙ from-reached-tree ring points 0 x W (omega arith)
 
   -- two numbers a stripe
   pub stripes-length : length (stripesPart options ring points) ≡ 2 * stripesIn options ring points
@@ -203,7 +203,7 @@ module _ (options : BuildOptions) (ring : List ℤ) (points : ℕ) (at : Places)
         go false y p q = e ∙ sym (ap (λ (o : striping.Outcome). gained (o .0) r₂) p)
 
 -- ---- what the crate above learns from a step
-module _ (options : BuildOptions) (ring : List ℤ) (points : ℕ) (x : Bool) (at : Places) (S L B W : List ℕ) (r : Gained) (s l b w : List ℕ) where
+module _ (options : BuildOptions) (ring : ℕ → Float) (points : ℕ) (x : Bool) (at : Places) (S L B W : List ℕ) (r : Gained) (s l b w : List ℕ) where
   pub step-done : (g : Gain) → Stepped options ring points x at S L B W r s l b w → r ≡ Parts g
       → (x ≡ true) × (g ≡ gainIn options ring points) × (s ≡ behind (at .stripes) S (stripesPart options ring points))
       × (l ≡ behind (at .list) L (listPart options ring points)) × (b ≡ behind (at .bytes) B (bytesPart options ring points)) × (w ≡ W)

@@ -4,7 +4,6 @@ use mathlib.Core.List.{List, [], _∷_}
 use mathlib.Core.Bool.{Bool, not, cond, _&&_, _||_}
 use lib.Dec.{leb, ltb}
 use lib.ListN.{length}
-use lib.IntN.{ℤ}
 use lib.Ieee.{Float, binary64, ofBits}
 use Rattle.room.specs.Numbers.{bit}
 use Rattle.rings.specs.Ring.{segments}
@@ -36,13 +35,13 @@ module _ (options : BuildOptions) (n : ℕ) where
   saysUnder = (options .«enable_y_stripes» || options .«enable_compressed_quad») && under
 
 -- the stripes of a ring of n segments, and their list
-abbrev pub ringStripes : List ℤ → ℕ → List ℕ
+abbrev pub ringStripes : (ℕ → Float) → ℕ → List ℕ
 ringStripes ring n = tableOf (crossesIn ring n) n (stripeCount ring n)
 
-abbrev pub ringList : List ℤ → ℕ → List ℕ
+abbrev pub ringList : (ℕ → Float) → ℕ → List ℕ
 ringList ring n = listOf (crossesIn ring n) n (stripeCount ring n)
 
-module _ (options : BuildOptions) (ring : List ℤ) (points : ℕ) where
+module _ (options : BuildOptions) (ring : ℕ → Float) (points : ℕ) where
   -- its stripes, two numbers a stripe, and their list; its bytes; its least y and height
   unfoldable pub stripesPart : List ℕ
   stripesPart = cond (hasStripes options (segments points)) (ringStripes ring (segments points)) []

@@ -9,6 +9,7 @@ ghost use mathlib.Core.Bool.{_&&_};
 ghost use mathlib.Core.List.{[], _∷_};
 ghost use Prim.Native.Nat.{_+_, _*_, _≤_};
 ghost use lib.ListN.{length, replicate};
+ghost use Rattle.rings.specs.Ring.{wide};
 ghost use lib.Seq.{paste};
 ghost use Rattle.room.specs.Numbers.{bit};
 ghost use Rattle.room.specs.Room.{write};
@@ -109,7 +110,7 @@ fn ring_stripes(
     requires { ⌜ ringChecked (now ring) points ≡ Sound ⌝ }
     requires { ⌜ ZeroFrom (at .stripes) (now stripes) ⌝ }
     requires { ⌜ ZeroFrom (at .list) (now list) ⌝ }
-    ensures { λ r. ⌜ stripesPut options (now (ring .entry)) points at (now (stripes .entry)) (now (list .entry)) ≡ (r, now (stripes .exit), now (list .exit)) ⌝ }
+    ensures { λ r. ⌜ stripesPut options (wide (now (ring .entry))) points at (now (stripes .entry)) (now (list .entry)) ≡ (r, now (stripes .exit), now (list .exit)) ⌝ }
 {
     if !options.gives_stripes(points - 1) {
         return StripesBuilt::Unstriped;
@@ -131,7 +132,7 @@ fn ring_tree(
     requires { ⌜ ringChecked (now ring) points ≡ Sound ⌝ }
     requires { ⌜ ZeroFrom (at .bytes) (now bytes) ⌝ }
     requires { ⌜ now work ≡ replicate (length (now work)) 0 ⌝ }
-    ensures { λ r. ⌜ treePut options (now (ring .entry)) points at (now (bytes .entry)) (now (work .entry)) ≡ (r, now (bytes .exit), now (work .exit)) ⌝ }
+    ensures { λ r. ⌜ treePut options (wide (now (ring .entry))) points at (now (bytes .entry)) (now (work .entry)) ≡ (r, now (bytes .exit), now (work .exit)) ⌝ }
 {
     if !options.gives_tree(points - 1) {
         return TreeBuilt::Unpacked;
@@ -208,7 +209,7 @@ pub fn index_ring(
     requires { ⌜ ZeroFrom (at .list) (now list) ⌝ }
     requires { ⌜ ZeroFrom (at .bytes) (now bytes) ⌝ }
     requires { ⌜ now work ≡ replicate (length (now work)) 0 ⌝ }
-    ensures { λ r. ⌜ Stepped options (now (ring .entry)) points (stripesFit options (now (ring .entry)) points at (now (stripes .entry)) (now (list .entry)) && treeFits options (now (ring .entry)) points at (now (bytes .entry)) (now (work .entry))) at (now (stripes .entry)) (now (list .entry)) (now (bytes .entry)) (now (work .entry)) r (now (stripes .exit)) (now (list .exit)) (now (bytes .exit)) (now (work .exit)) ⌝ }
+    ensures { λ r. ⌜ Stepped options (wide (now (ring .entry))) points (stripesFit options (wide (now (ring .entry))) points at (now (stripes .entry)) (now (list .entry)) && treeFits options (wide (now (ring .entry))) points at (now (bytes .entry)) (now (work .entry))) at (now (stripes .entry)) (now (list .entry)) (now (bytes .entry)) (now (work .entry)) r (now (stripes .exit)) (now (list .exit)) (now (bytes .exit)) (now (work .exit)) ⌝ }
 {
     let striped = ring_stripes(ring, points, options, at, stripes, list);
     let treed = ring_tree(ring, points, options, at, bytes, work);

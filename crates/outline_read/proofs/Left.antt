@@ -16,7 +16,7 @@ use Rattle.boxes.specs.declared.Point.{Point}
 use Rattle.room.specs.Room.{pad}
 use Rattle.rings.specs.declared.Checked.{Checked}
 use Rattle.rings.specs.declared.Checked.the-variants.{Sound, Faulty}
-use Rattle.rings.specs.Ring.{segments}
+use Rattle.rings.specs.Ring.{wide, segments}
 use Rattle.rings.specs.I32s.{I32s}
 use Rattle.rings.proofs.Checks.{both}
 use Rattle.cast_test.specs.Test.{scanOf}
@@ -41,10 +41,10 @@ use Rattle.outline_read.proofs.Statistics.{made-stats}
 module _ (sizes : List ℕ) (coords : List ℤ) (options : BuildOptions) (table : List ℕ) (spans : List Float) (stripes list bytes work : List ℕ) where
   -- room that suffices has no ring call for too many stripes
   roomy-few : roomy table spans stripes list bytes work options sizes coords ≡ true
-      → (k : ℕ) → k < rings sizes → fewStripes options (ringOf sizes coords k) (sizeAt sizes k) ≡ true
+      → (k : ℕ) → k < rings sizes → fewStripes options (wide (ringOf sizes coords k)) (sizeAt sizes k) ≡ true
   roomy-few e k h =
       let enough = roomy-is options sizes coords table spans stripes list bytes work e in
-      both (fewStripes options (ringOf sizes coords k) (sizeAt sizes k)) (enoughWork options (ringOf sizes coords k) (sizeAt sizes k) work)
+      both (fewStripes options (wide (ringOf sizes coords k)) (sizeAt sizes k)) (enoughWork options (wide (ringOf sizes coords k)) (sizeAt sizes k) work)
       (every-one (calls options sizes coords work) k (rings sizes) h (enough .called)) .0
 
   module _ (count : ℕ) (t : List ℕ) (sp : List Float) (s l b w : List ℕ)
@@ -94,21 +94,21 @@ module _ (sizes : List ℕ) (coords : List ℤ) (options : BuildOptions) (table 
           ∙ tells-its-tree options sizes coords (length table) (length spans) (length stripes) (length list) (length bytes) k below
 
       -- and the statistics that its row tells are the ring's true ones
-      pub left-stats : statsAt t k ≡ ringStats options (ringOf sizes coords k) (sizeAt sizes k)
+      pub left-stats : statsAt t k ≡ ringStats options (wide (ringOf sizes coords k)) (sizeAt sizes k)
       left-stats =
           ap (λ (x : Indexes). statsAt (x .table) k) (sym (left .holds))
           ∙ made-stats options sizes coords (length table) (length spans) (length stripes) (length list) (length bytes) k below
 
       -- they are its own
-      own-at : OwnIndex (lent t sp s l b) k (ringOf sizes coords k) (sizeAt sizes k)
+      own-at : OwnIndex (lent t sp s l b) k (wide (ringOf sizes coords k)) (sizeAt sizes k)
       own-at =
-          subst (λ (x : Indexes). OwnIndex x k (ringOf sizes coords k) (sizeAt sizes k)) (left .holds)
+          subst (λ (x : Indexes). OwnIndex x k (wide (ringOf sizes coords k)) (sizeAt sizes k)) (left .holds)
           (made-own options sizes coords (length table) (length spans) (length stripes) (length list) (length bytes) k below (roomy-few (left .enough) k below))
 
       -- so the ring test through them is the scan's
       pub left-as-scan : I32s coords → (p : Point) (edge : Bool) → (finite (p .x) && finite (p .y)) ≡ true
-          → ringAsked (lent t sp s l b) k (ringBox (ringOf sizes coords k) (sizeAt sizes k)) (ringOf sizes coords k) (segments (sizeAt sizes k)) p edge
-          ≡ said (scanOf (ringOf sizes coords k) (segments (sizeAt sizes k)) p edge)
+          → ringAsked (lent t sp s l b) k (ringBox (wide (ringOf sizes coords k)) (sizeAt sizes k)) (wide (ringOf sizes coords k)) (segments (sizeAt sizes k)) p edge
+          ≡ said (scanOf (wide (ringOf sizes coords k)) (segments (sizeAt sizes k)) p edge)
       left-as-scan nums p edge fit =
           let shaped = sound-shape sizes coords true (left .shape) .1 in
           asked-as-scan (lent t sp s l b) k (ringOf sizes coords k) (sizeAt sizes k) (ring-sound sizes coords k shaped below)

@@ -12,7 +12,7 @@ use lib.Ieee.{Float}
 use borrow.Author.Tests.{le-leb, leb-true}
 use Rattle.room.specs.Numbers.{bit}
 use Rattle.room.specs.Room.{pad}
-use Rattle.rings.specs.Ring.{segments}
+use Rattle.rings.specs.Ring.{wide, segments}
 use Rattle.stripes_count.specs.Count.{stripeCount}
 use Rattle.stripes_index.specs.Index.{leastY, heightY, partOf, listOf as entriesListed}
 use Rattle.stripes_index.proofs.Pairs.{pairs-length}
@@ -42,7 +42,7 @@ tells-tree false true = refl
 tells-tree false false = refl
 
 -- the parts of one ring
-module _ (options : BuildOptions) (ring : List ℤ) (points : ℕ) where
+module _ (options : BuildOptions) (ring : ℕ → Float) (points : ℕ) where
   stripes-long : 2 * stripesIn options ring points ≡ length (stripesPart options ring points)
   unfolding stripesIn stripesPart
   stripes-long = go (getsStripes options (segments points))
@@ -110,55 +110,55 @@ module _ (options : BuildOptions) (sizes : List ℕ) (coords : List ℤ) where
         ∙ tells-tree (getsStripes options (segments (sizeAt sizes k))) (getsTree options (segments (sizeAt sizes k)))
 
     -- and these are its own
-    pub reads-least : leastOf (made t sp s l b .spans) k ≡ leastIn options (ringOf sizes coords k) (sizeAt sizes k)
+    pub reads-least : leastOf (made t sp s l b .spans) k ≡ leastIn options (wide (ringOf sizes coords k)) (sizeAt sizes k)
     reads-least =
         let e : 2 * k ≡ 2 * k + 0 = omega arith in
         ap (λ (i : ℕ). getD (made t sp s l b .spans) i none) e
-        ∙ pool-at (λ j. spanPart options (ringOf sizes coords j) (sizeAt sizes j)) noHeight sp k (rings sizes) below 2 (λ j. refl) 0 (omega arith) none
+        ∙ pool-at (λ j. spanPart options (wide (ringOf sizes coords j)) (sizeAt sizes j)) noHeight sp k (rings sizes) below 2 (λ j. refl) 0 (omega arith) none
 
-    pub reads-height : heightOf (made t sp s l b .spans) k ≡ heightIn options (ringOf sizes coords k) (sizeAt sizes k)
+    pub reads-height : heightOf (made t sp s l b .spans) k ≡ heightIn options (wide (ringOf sizes coords k)) (sizeAt sizes k)
     reads-height =
-        pool-at (λ j. spanPart options (ringOf sizes coords j) (sizeAt sizes j)) noHeight sp k (rings sizes) below 2 (λ j. refl) 1 (omega arith) none
+        pool-at (λ j. spanPart options (wide (ringOf sizes coords j)) (sizeAt sizes j)) noHeight sp k (rings sizes) below 2 (λ j. refl) 1 (omega arith) none
 
-    pub reads-stripes : stripesOf (made t sp s l b .table) (made t sp s l b .stripes) k ≡ stripesPart options (ringOf sizes coords k) (sizeAt sizes k)
+    pub reads-stripes : stripesOf (made t sp s l b .table) (made t sp s l b .stripes) k ≡ stripesPart options (wide (ringOf sizes coords k)) (sizeAt sizes k)
     reads-stripes =
-        let count = stripes-long options (ringOf sizes coords k) (sizeAt sizes k) in
+        let count = stripes-long options (wide (ringOf sizes coords k)) (sizeAt sizes k) in
         ap₂ (λ (at n : ℕ). part (made t sp s l b .stripes) at (2 * n)) (row-number 3 (omega arith)) (row-number 4 (omega arith))
         ∙ ap₂ (λ (xs : List ℕ) (n : ℕ). part xs (length (stripesTo options sizes coords k)) n) (pad-is s (stripesTo options sizes coords (rings sizes))) count
-        ∙ pool-part (λ j. stripesPart options (ringOf sizes coords j) (sizeAt sizes j)) 0 s k (rings sizes) below
+        ∙ pool-part (λ j. stripesPart options (wide (ringOf sizes coords j)) (sizeAt sizes j)) 0 s k (rings sizes) below
 
-    pub reads-list : listOf (made t sp s l b .table) (made t sp s l b .list) k ≡ listPart options (ringOf sizes coords k) (sizeAt sizes k)
+    pub reads-list : listOf (made t sp s l b .table) (made t sp s l b .list) k ≡ listPart options (wide (ringOf sizes coords k)) (sizeAt sizes k)
     reads-list =
-        let count = entries-long options (ringOf sizes coords k) (sizeAt sizes k) in
+        let count = entries-long options (wide (ringOf sizes coords k)) (sizeAt sizes k) in
         ap₂ (λ (at n : ℕ). part (made t sp s l b .list) at n) (row-number 5 (omega arith)) (row-number 6 (omega arith))
         ∙ ap₂ (λ (xs : List ℕ) (n : ℕ). part xs (length (listTo options sizes coords k)) n) (pad-is l (listTo options sizes coords (rings sizes))) count
-        ∙ pool-part (λ j. listPart options (ringOf sizes coords j) (sizeAt sizes j)) 0 l k (rings sizes) below
+        ∙ pool-part (λ j. listPart options (wide (ringOf sizes coords j)) (sizeAt sizes j)) 0 l k (rings sizes) below
 
-    pub reads-bytes : bytesOf (made t sp s l b .table) (made t sp s l b .bytes) k ≡ bytesPart options (ringOf sizes coords k) (sizeAt sizes k)
+    pub reads-bytes : bytesOf (made t sp s l b .table) (made t sp s l b .bytes) k ≡ bytesPart options (wide (ringOf sizes coords k)) (sizeAt sizes k)
     reads-bytes =
         ap₂ (λ (at n : ℕ). part (made t sp s l b .bytes) at n) (row-number 8 (omega arith)) (row-number 9 (omega arith))
-        ∙ ap (λ (xs : List ℕ). part xs (length (bytesTo options sizes coords k)) (length (bytesPart options (ringOf sizes coords k) (sizeAt sizes k))))
+        ∙ ap (λ (xs : List ℕ). part xs (length (bytesTo options sizes coords k)) (length (bytesPart options (wide (ringOf sizes coords k)) (sizeAt sizes k))))
         (pad-is b (bytesTo options sizes coords (rings sizes)))
-        ∙ pool-part (λ j. bytesPart options (ringOf sizes coords j) (sizeAt sizes j)) 0 b k (rings sizes) below
+        ∙ pool-part (λ j. bytesPart options (wide (ringOf sizes coords j)) (sizeAt sizes j)) 0 b k (rings sizes) below
 
     -- all of them lie in the rooms
     stripes-there : lies (made t sp s l b .stripes) (number (made t sp s l b .table) k 3) (2 * number (made t sp s l b .table) k 4) ≡ true
     stripes-there =
-        let count = stripes-long options (ringOf sizes coords k) (sizeAt sizes k) in
+        let count = stripes-long options (wide (ringOf sizes coords k)) (sizeAt sizes k) in
         ap₂ (λ (at n : ℕ). lies (made t sp s l b .stripes) at (2 * n)) (row-number 3 (omega arith)) (row-number 4 (omega arith))
         ∙ ap₂ (λ (xs : List ℕ) (n : ℕ). lies xs (length (stripesTo options sizes coords k)) n) (pad-is s (stripesTo options sizes coords (rings sizes))) count
-        ∙ le-leb _ _ (pool-lies (λ j. stripesPart options (ringOf sizes coords j) (sizeAt sizes j)) 0 s k (rings sizes) below)
+        ∙ le-leb _ _ (pool-lies (λ j. stripesPart options (wide (ringOf sizes coords j)) (sizeAt sizes j)) 0 s k (rings sizes) below)
 
     list-there : lies (made t sp s l b .list) (number (made t sp s l b .table) k 5) (number (made t sp s l b .table) k 6) ≡ true
     list-there =
-        let count = entries-long options (ringOf sizes coords k) (sizeAt sizes k) in
+        let count = entries-long options (wide (ringOf sizes coords k)) (sizeAt sizes k) in
         ap₂ (λ (at n : ℕ). lies (made t sp s l b .list) at n) (row-number 5 (omega arith)) (row-number 6 (omega arith))
         ∙ ap₂ (λ (xs : List ℕ) (n : ℕ). lies xs (length (listTo options sizes coords k)) n) (pad-is l (listTo options sizes coords (rings sizes))) count
-        ∙ le-leb _ _ (pool-lies (λ j. listPart options (ringOf sizes coords j) (sizeAt sizes j)) 0 l k (rings sizes) below)
+        ∙ le-leb _ _ (pool-lies (λ j. listPart options (wide (ringOf sizes coords j)) (sizeAt sizes j)) 0 l k (rings sizes) below)
 
     span-there : lies (made t sp s l b .spans) (2 * k) 2 ≡ true
     span-there =
-        let spans : ℕ → List Float = λ j. spanPart options (ringOf sizes coords j) (sizeAt sizes j) in
+        let spans : ℕ → List Float = λ j. spanPart options (wide (ringOf sizes coords j)) (sizeAt sizes j) in
         le-leb (2 * k + 2) (length (made t sp s l b .spans)) (omega (arith, pool-lies spans noHeight sp k (rings sizes) below, turn-like spans 2 k (λ j. refl)))
 
     pub made-lie : stripesLie (made t sp s l b) k ≡ true
@@ -167,12 +167,12 @@ module _ (options : BuildOptions) (sizes : List ℕ) (coords : List ℤ) where
     pub made-lies : treeLies (made t sp s l b) k ≡ true
     made-lies =
         ap₂ (λ (at n : ℕ). lies (made t sp s l b .bytes) at n) (row-number 8 (omega arith)) (row-number 9 (omega arith))
-        ∙ ap (λ (xs : List ℕ). lies xs (length (bytesTo options sizes coords k)) (length (bytesPart options (ringOf sizes coords k) (sizeAt sizes k))))
+        ∙ ap (λ (xs : List ℕ). lies xs (length (bytesTo options sizes coords k)) (length (bytesPart options (wide (ringOf sizes coords k)) (sizeAt sizes k))))
         (pad-is b (bytesTo options sizes coords (rings sizes)))
-        ∙ le-leb _ _ (pool-lies (λ j. bytesPart options (ringOf sizes coords j) (sizeAt sizes j)) 0 b k (rings sizes) below)
+        ∙ le-leb _ _ (pool-lies (λ j. bytesPart options (wide (ringOf sizes coords j)) (sizeAt sizes j)) 0 b k (rings sizes) below)
 
     -- which is what building an index from the ring gives it
-    pub made-own : fewStripes options (ringOf sizes coords k) (sizeAt sizes k) ≡ true → OwnIndex (made t sp s l b) k (ringOf sizes coords k) (sizeAt sizes k)
+    pub made-own : fewStripes options (wide (ringOf sizes coords k)) (sizeAt sizes k) ≡ true → OwnIndex (made t sp s l b) k (wide (ringOf sizes coords k)) (sizeAt sizes k)
     made-own few =
         record {
           stripes =
@@ -180,12 +180,12 @@ module _ (options : BuildOptions) (sizes : List ℕ) (coords : List ℤ) where
               let gets = sym tells-its-stripes ∙ h in
               record {
                 lie = made-lie;
-                few = gets-few options (ringOf sizes coords k) (sizeAt sizes k) gets few;
-                from = reads-least ∙ gets-least options (ringOf sizes coords k) (sizeAt sizes k) gets;
-                tall = reads-height ∙ gets-height options (ringOf sizes coords k) (sizeAt sizes k) gets;
-                table = reads-stripes ∙ gets-stripes options (ringOf sizes coords k) (sizeAt sizes k) gets;
-                numbers = reads-list ∙ gets-list options (ringOf sizes coords k) (sizeAt sizes k) gets;
+                few = gets-few options (wide (ringOf sizes coords k)) (sizeAt sizes k) gets few;
+                from = reads-least ∙ gets-least options (wide (ringOf sizes coords k)) (sizeAt sizes k) gets;
+                tall = reads-height ∙ gets-height options (wide (ringOf sizes coords k)) (sizeAt sizes k) gets;
+                table = reads-stripes ∙ gets-stripes options (wide (ringOf sizes coords k)) (sizeAt sizes k) gets;
+                numbers = reads-list ∙ gets-list options (wide (ringOf sizes coords k)) (sizeAt sizes k) gets;
               };
           lies = λ h. made-lies;
-          tree = λ h. reads-bytes ∙ gets-bytes options (ringOf sizes coords k) (sizeAt sizes k) (sym tells-its-tree ∙ h);
+          tree = λ h. reads-bytes ∙ gets-bytes options (wide (ringOf sizes coords k)) (sizeAt sizes k) (sym tells-its-tree ∙ h);
         }

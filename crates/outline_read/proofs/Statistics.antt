@@ -7,8 +7,9 @@ use native.Mathlib.Omega.{arith}
 use lib.ListN.{length}
 use lib.IntN.{ℤ}
 use lib.Dec.{eqb}
+use lib.Ieee.{Float}
 use Rattle.room.specs.Numbers.{bit}
-use Rattle.rings.specs.Ring.{segments}
+use Rattle.rings.specs.Ring.{wide, segments}
 use Rattle.stripes_count.specs.Count.{stripeCount}
 use Rattle.stripes_index.specs.Index.{fullestOf}
 use Rattle.stripes_build.specs.Build.{crossesIn}
@@ -40,7 +41,7 @@ told-if : (n : ℕ) (under tree striped : Bool) (m : ℕ) (list : List ℕ) (ful
 told-if n under tree true m list fullest = refl
 told-if n under tree false m list fullest = refl
 
-told-true : (options : BuildOptions) (ring : List ℤ) (points : ℕ)
+told-true : (options : BuildOptions) (ring : ℕ → Float) (points : ℕ)
     → told (segments points) (saysUnder options (segments points)) (hasTree options (segments points)) (hasStripes options (segments points))
     (stripesIn options ring points) (entriesIn options ring points) (fullestIn options ring points)
     ≡ ringStats options ring points
@@ -51,7 +52,7 @@ told-true options ring points =
     told-if n (saysUnder options n) (hasTree options n) (hasStripes options n) m (ringList ring n) (fullestOf (crossesIn ring n) n m)
 
 module _ (options : BuildOptions) (sizes : List ℕ) (coords : List ℤ) (t sp s l b k : ℕ) (below : k < rings sizes) where
-  pub made-stats : statsAt (made options sizes coords t sp s l b .table) k ≡ ringStats options (ringOf sizes coords k) (sizeAt sizes k)
+  pub made-stats : statsAt (made options sizes coords t sp s l b .table) k ≡ ringStats options (wide (ringOf sizes coords k)) (sizeAt sizes k)
   unfolding statsAt
   made-stats =
       let n = segments (sizeAt sizes k) in
@@ -59,4 +60,4 @@ module _ (options : BuildOptions) (sizes : List ℕ) (coords : List ℤ) (t sp s
       let zero = at 0 (omega arith) in
       let one = ap (λ (x : ℕ). eqb x 1) (at 1 (omega arith)) ∙ tells-under (saysUnder options n) in
       rw (zero, one, tells-its-tree options sizes coords t sp s l b k below, tells-its-stripes options sizes coords t sp s l b k below, at 4 (omega arith), at 6 (omega arith), at 7 (omega arith))
-      (told-true options (ringOf sizes coords k) (sizeAt sizes k))
+      (told-true options (wide (ringOf sizes coords k)) (sizeAt sizes k))

@@ -1,6 +1,6 @@
 -- What the least and the greatest are: each is one of the numbers, and no number lies beyond it. Assumes nothing.
 use Prim.Native.Nat.{ℕ, zero, suc, _≤_, _<_}
-use mathlib.Core.Path.{_≡_, refl, sym, _∙_}
+use mathlib.Core.Path.{_≡_, refl, sym, ap, _∙_}
 use mathlib.Core.Bool.{Bool, true, false}
 use mathlib.Core.Logic.{_⊎_, inl, inr, ⊎-elim}
 use native.Mathlib.Omega.{arith}
@@ -9,7 +9,7 @@ use lib.IntN.{ℤ}
 use lib.Signed.{ltZ, leZ}
 use borrow.Author.Tests.{ltb-true, ltb-false, leb-true, le-leb}
 use Rattle.room.proofs.Cases.{eq-or}
-use Rattle.rings.proofs.Whole.{shifted, lt-shift, le-shift}
+use Rattle.rings.proofs.Whole.{diff, shifted, lt-shift, le-shift}
 use Rattle.outline_record.specs.Record.{lesserZ, greaterZ, leastZ, greatestZ}
 
 le-transZ : (x y z : ℤ) → leZ x y ≡ true → leZ y z ≡ true → leZ x z ≡ true
@@ -27,6 +27,15 @@ below = shifted (λ x y z. ltZ x y ≡ true → leZ x y ≡ true) (λ o a b c p.
 
 notBelow : (x y z : ℤ) → ltZ x y ≡ false → leZ y x ≡ true
 notBelow = shifted (λ x y z. ltZ x y ≡ false → leZ y x ≡ true) (λ o a b c p. le-shift o b a ∙ le-leb b a (ltb-false a b (sym (lt-shift o a b) ∙ p)))
+
+-- neither is below the other: they are one
+pub level : (x y z : ℤ) → ltZ x y ≡ false → ltZ y x ≡ false → x ≡ y
+level =
+    shifted (λ x y z. ltZ x y ≡ false → ltZ y x ≡ false → x ≡ y)
+    (λ o a b c p q. ap (λ (k : ℕ). diff k o) (both a b (ltb-false a b (sym (lt-shift o a b) ∙ p)) (ltb-false b a (sym (lt-shift o b a) ∙ q))))
+  where
+    both : (a b : ℕ) → b ≤ a → a ≤ b → a ≡ b
+    both a b h k = omega arith
 
 same : (x y z : ℤ) → leZ x x ≡ true
 same = shifted (λ x y z. leZ x x ≡ true) (λ o a b c. le-shift o a a ∙ le-leb a a (omega arith))

@@ -1,18 +1,22 @@
 -- The least and the greatest of a ring's coordinates, one point after another, and that they are the same as floats. Assumes nothing.
 use Prim.Native.Nat.{ℕ, zero, suc, _+_, _*_, _^_, _≤_}
-use mathlib.Core.Path.{_≡_, refl, sym, ap, _∙_}
+use mathlib.Core.Path.{_≡_, refl, sym, ap, _∙_, subst}
 use mathlib.Core.List.{List}
-use mathlib.Core.Bool.{Bool, true, false, cond}
+use mathlib.Core.Bool.{Bool, true, false, not, cond, or-false}
 use native.Mathlib.Omega.{arith}
 use native.Mathlib.Numerals.{add-one}
 use lib.ListN.{getD}
 use lib.IntN.{ℤ, pos, natAbs}
 use lib.Signed.{ltZ}
-use lib.Ieee.{Float, binary64, ofInt}
-use Rattle.boxes.specs.Segments.{lesser, greater}
-use Rattle.floats.proofs.Ints.{ofInt-lt}
+use lib.Dec.{T}
+use lib.Ieee.{Float, binary64, ofInt, lt, eq, ne}
+use lib.Ieee.Bits.{is-true}
+use Rattle.floats.specs.Values.{lesserOf, greaterOf}
+use Rattle.floats.proofs.Order.{le-refl, le-antisym, lt-le, lt-not-le}
+use Rattle.floats.proofs.Ints.{ofInt-lt, ofInt-number}
 use Rattle.tree.specs.Tree.{least, greatest}
 use Rattle.outline_record.specs.Record.{lesserZ, greaterZ, leastZ, greatestZ}
+use Rattle.outline_record.proofs.Among.{level}
 
 -- the first (offset 0) or the second (offset 1) coordinate of point k
 abbrev pub at : List ℤ → ℕ → ℕ → ℤ
@@ -46,9 +50,35 @@ pick-small : (b : Bool) (x y : ℤ) → Small x → Small y → Small (cond b x 
 pick-small true x y h k = h
 pick-small false x y h k = k
 
-ofInt-pick : (b : Bool) (x y : ℤ) → ofInt binary64 (cond b x y) ≡ cond b (ofInt binary64 x) (ofInt binary64 y)
-ofInt-pick true x y = refl
-ofInt-pick false x y = refl
+-- of whole numbers, the lesser and the greater are the same as floats
+module _ (a b : ℤ) (h : Small a) (k : Small b) where
+  self : ne (ofInt binary64 a) (ofInt binary64 a) ≡ false
+  unfolding ne
+  self =
+      let x = ofInt binary64 a in
+      let l = le-refl x (ofInt-number a h .1) in
+      ap not (is-true (eq x x) (le-antisym x x l l))
+
+  lesser-float : ofInt binary64 (lesserZ a b) ≡ lesserOf (ofInt binary64 a) (ofInt binary64 b)
+  unfolding lesserOf
+  lesser-float = rw (self, or-false (lt (ofInt binary64 b) (ofInt binary64 a)), ofInt-lt b a k h) (go (ltZ a b) (ltZ b a) refl refl)
+    where
+      go : (s t : Bool) → ltZ a b ≡ s → ltZ b a ≡ t → ofInt binary64 (cond s a b) ≡ cond t (ofInt binary64 b) (ofInt binary64 a)
+      go true true e f =
+          let less : T (lt (ofInt binary64 a) (ofInt binary64 b)) = subst T (sym (ofInt-lt a b h k ∙ e)) tt in
+          let more : T (lt (ofInt binary64 b) (ofInt binary64 a)) = subst T (sym (ofInt-lt b a k h ∙ f)) tt in
+          absurd (lt-not-le (ofInt binary64 a) (ofInt binary64 b) less (lt-le (ofInt binary64 b) (ofInt binary64 a) more))
+      go true false e f = refl
+      go false true e f = refl
+      go false false e f = ap (ofInt binary64) (sym (level a b a e f))
+
+  greater-float : ofInt binary64 (greaterZ a b) ≡ greaterOf (ofInt binary64 a) (ofInt binary64 b)
+  unfolding greaterOf
+  greater-float = rw (self, or-false (lt (ofInt binary64 a) (ofInt binary64 b)), ofInt-lt a b h k) (go (ltZ a b))
+    where
+      go : (s : Bool) → ofInt binary64 (cond s b a) ≡ cond s (ofInt binary64 b) (ofInt binary64 a)
+      go true = refl
+      go false = refl
 
 module _ (f : ℕ → ℤ) where
   least-small : (n : ℕ) → ((i : ℕ) → i ≤ n → Small (f i)) → Small (leastZ f n)
@@ -70,9 +100,8 @@ module _ (f : ℕ → ℤ) where
   least-float (suc n) h =
       let below : (i : ℕ) → i ≤ n → Small (f i) = λ i l. h i (omega arith) in
       let a = leastZ f n in let b = f (suc n) in
-      ofInt-pick (ltZ a b) a b
-      ∙ ap (λ (t : Bool). cond t (ofInt binary64 a) (ofInt binary64 b)) (sym (ofInt-lt a b (least-small n below) (h (suc n) (omega arith))))
-      ∙ ap (λ (x : Float). lesser x (ofInt binary64 b)) (least-float n below)
+      lesser-float a b (least-small n below) (h (suc n) (omega arith))
+      ∙ ap (λ (x : Float). lesserOf x (ofInt binary64 b)) (least-float n below)
 
   pub greatest-float : (n : ℕ) → ((i : ℕ) → i ≤ n → Small (f i)) → ofInt binary64 (greatestZ f n) ≡ greatest (λ i. ofInt binary64 (f i)) n
   unfolding greatestZ greatest
@@ -80,6 +109,5 @@ module _ (f : ℕ → ℤ) where
   greatest-float (suc n) h =
       let below : (i : ℕ) → i ≤ n → Small (f i) = λ i l. h i (omega arith) in
       let a = greatestZ f n in let b = f (suc n) in
-      ofInt-pick (ltZ a b) b a
-      ∙ ap (λ (t : Bool). cond t (ofInt binary64 b) (ofInt binary64 a)) (sym (ofInt-lt a b (greatest-small n below) (h (suc n) (omega arith))))
-      ∙ ap (λ (x : Float). greater x (ofInt binary64 b)) (greatest-float n below)
+      greater-float a b (greatest-small n below) (h (suc n) (omega arith))
+      ∙ ap (λ (x : Float). greaterOf x (ofInt binary64 b)) (greatest-float n below)

@@ -15,7 +15,7 @@ use Rattle.floats.proofs.Ints.{i32-small}
 use Rattle.boxes.specs.Quads.{box}
 use Rattle.rings.specs.declared.Checked.{Checked}
 use Rattle.rings.specs.declared.Checked.the-variants.{Sound, Faulty}
-use Rattle.rings.specs.Ring.{pointAt}
+use Rattle.rings.specs.Ring.{wide, pointAt}
 use Rattle.rings.specs.I32s.{I32s}
 use Rattle.tree.specs.Tree.{ringBox}
 use Rattle.outline_check.specs.Outline.{rings, sizeAt, startOf, ringOf}
@@ -65,7 +65,7 @@ module _ (sizes : List ℕ) (coords : List ℤ) (i32s : I32s coords) (s : Counte
       let e = getD-take n (drop at coords) i (pos 0) l ∙ getD-drop at coords i (pos 0) in
       rw e (i32-small (getD coords (at + i) (pos 0)) (i32s (at + i) (omega (arith, part-within s k h))))
 
-  pub rect-in : (rest : List ℤ) → rectAt (boxesOf sizes coords ++ rest) k ≡ ringBox (ringOf sizes coords k) (sizeAt sizes k)
+  pub rect-in : (rest : List ℤ) → rectAt (boxesOf sizes coords ++ rest) k ≡ ringBox (wide (ringOf sizes coords k)) (sizeAt sizes k)
   unfolding ringBox boxNumbers
   rect-in rest =
       let ring = ringOf sizes coords k in
@@ -82,7 +82,7 @@ module _ (sizes : List ℕ) (coords : List ℤ) (i32s : I32s coords) (s : Counte
       (ap (ofInt binary64) (boxes-at sizes coords (rings sizes) k 3 rest h (omega arith)) ∙ greatest-float (λ i. pointAt ring i .y) last ys)
 
   -- the record alone
-  pub rect-of-ring : rectAt (boxesOf sizes coords) k ≡ ringBox (ringOf sizes coords k) (sizeAt sizes k)
+  pub rect-of-ring : rectAt (boxesOf sizes coords) k ≡ ringBox (wide (ringOf sizes coords k)) (sizeAt sizes k)
   rect-of-ring = sym (ap (λ (zs : List ℤ). rectAt zs k) (append-nil (boxesOf sizes coords))) ∙ rect-in []
 
 -- the whole-number test of a box asks the least and the greatest

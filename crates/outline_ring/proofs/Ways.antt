@@ -1,11 +1,10 @@
 -- The ways through the ring test of a ring of an outline. Assumes nothing.
 use mathlib.Core.Path.{_≡_, refl, sym, ap, _∙_}
-use mathlib.Core.Bool.{Bool, true, false, cond, _&&_}
+use mathlib.Core.Bool.{Bool, true, false, _&&_}
 use mathlib.Core.List.{List}
 use Prim.Native.Nat.{ℕ, _+_, _-_, _*_, _/_, _%_, _≤_, _<_}
 use native.Mathlib.Omega.{arith}
 use lib.ListN.{length, getD, take, drop}
-use lib.IntN.{ℤ}
 use lib.Dec.{eqb, leb}
 use lib.Ieee.{Float}
 use borrow.Author.Tests.{eq-eqb, ne-eqb, leb-true}
@@ -24,7 +23,7 @@ use Rattle.tree_find.specs.Find.{verdict as treeVerdict}
 use Rattle.outline_ring.specs.RingIndex.{Indexes, none, number, hasStripes, hasTree, leastOf, heightOf, stripesOf, listOf, bytesOf, stripesLie, treeLies, stripesAsked, treeAsked, ringAsked}
 use Rattle.outline_ring.proofs.Parts.{any-default}
 
-module _ (x : Indexes) (k : ℕ) (box : Rect) (ring : List ℤ) (n : ℕ) (p : Point) (edge : Bool) where
+module _ (x : Indexes) (k : ℕ) (box : Rect) (ring : ℕ → Float) (n : ℕ) (p : Point) (edge : Bool) where
   pub by-stripes : hasStripes (x .table) k ≡ true → ringAsked x k box ring n p edge ≡ stripesAsked x k ring n p edge
   unfolding ringAsked
   by-stripes e = rw e
@@ -61,7 +60,7 @@ module _ (table : List ℕ) (k kinds : ℕ) (is : kinds ≡ number table k 2) wh
   untreed h = rw (← is) (ne-eqb (kinds / 2 % 2) 1 h)
 
 -- the tree, where its bytes are `long` from `at` on, and `there` says whether they lie in the room
-module _ (x : Indexes) (k : ℕ) (box : Rect) (ring : List ℤ) (n : ℕ) (p : Point) (edge : Bool) (at long : ℕ) (there : Bool)
+module _ (x : Indexes) (k : ℕ) (box : Rect) (ring : ℕ → Float) (n : ℕ) (p : Point) (edge : Bool) (at long : ℕ) (there : Bool)
     (at-is : at ≡ number (x .table) k 8) (long-is : long ≡ number (x .table) k 9) (is : there ≡ leb (at + long) (length (x .bytes))) where
   pub tree-cut : there ≡ false → Refused (Damaged 0) ≡ treeAsked x k box ring n p edge
   tree-cut e = rw (← at-is, ← long-is, ← is, e)
@@ -70,7 +69,7 @@ module _ (x : Indexes) (k : ℕ) (box : Rect) (ring : List ℤ) (n : ℕ) (p : P
   tree-whole e = let m : at + long - at ≡ long = omega arith in rw (m, ← at-is, ← long-is, ← is, e)
 
 -- the stripes: two times `count` numbers from `from` on, a list of `entries` from `at` on, and a span
-module _ (x : Indexes) (k : ℕ) (ring : List ℤ) (n : ℕ) (p : Point) (edge : Bool) (from count at entries : ℕ) (pairs listed span : Bool)
+module _ (x : Indexes) (k : ℕ) (ring : ℕ → Float) (n : ℕ) (p : Point) (edge : Bool) (from count at entries : ℕ) (pairs listed span : Bool)
     (from-is : from ≡ number (x .table) k 3) (count-is : count ≡ number (x .table) k 4) (at-is : at ≡ number (x .table) k 5)
     (entries-is : entries ≡ number (x .table) k 6) (pairs-is : pairs ≡ leb (from + 2 * count) (length (x .stripes)))
     (listed-is : listed ≡ leb (at + entries) (length (x .list))) (span-is : span ≡ leb (2 * k + 2) (length (x .spans))) where

@@ -3,7 +3,6 @@ use mathlib.Core.Bool.{Bool, cond, _&&_}
 use mathlib.Core.List.{List}
 use Prim.Native.Nat.{ℕ, _+_, _*_, _/_, _%_}
 use lib.ListN.{length, getD, take, drop}
-use lib.IntN.{ℤ}
 use lib.Dec.{eqb, leb}
 use lib.Ieee.{Float, binary64, ofBits}
 use Rattle.answers.specs.declared.Answer.{Answer}
@@ -81,19 +80,19 @@ stripesLie x k =
 abbrev pub treeLies : Indexes → ℕ → Bool
 treeLies x k = lies (x .bytes) (number (x .table) k 8) (number (x .table) k 9)
 
--- The ring test through each. A part that doesn't lie there is damage, place 0, before the search and so at every height.
-abbrev pub stripesAsked : Indexes → ℕ → List ℤ → ℕ → Point → Bool → Answer
+-- The ring test through each, of a ring by its numbers as floats. A part that doesn't lie there is damage, place 0, before the search and so at every height.
+abbrev pub stripesAsked : Indexes → ℕ → (ℕ → Float) → ℕ → Point → Bool → Answer
 stripesAsked x k ring n p edge =
     cond (stripesLie x k)
     (stripesVerdict ring p edge (stripesSearched ring n (leastOf (x .spans) k) (heightOf (x .spans) k) (stripesOf (x .table) (x .stripes) k) (listOf (x .table) (x .list) k) (p .y)))
     (Refused (Damaged 0))
 
-abbrev pub treeAsked : Indexes → ℕ → Rect → List ℤ → ℕ → Point → Bool → Answer
+abbrev pub treeAsked : Indexes → ℕ → Rect → (ℕ → Float) → ℕ → Point → Bool → Answer
 treeAsked x k box ring n p edge =
     cond (treeLies x k) (treeVerdict ring p edge (treeSearched (bytesOf (x .table) (x .bytes) k) ring n (p .y) box)) (Refused (Damaged 0))
 
 -- "A ring without an index is scanned; with both, the stripes are read." Ring k has n segments and this box; p is finite.
-unfoldable pub ringAsked : Indexes → ℕ → Rect → List ℤ → ℕ → Point → Bool → Answer
+unfoldable pub ringAsked : Indexes → ℕ → Rect → (ℕ → Float) → ℕ → Point → Bool → Answer
 ringAsked x k box ring n p edge =
     cond (hasStripes (x .table) k) (stripesAsked x k ring n p edge)
     (cond (hasTree (x .table) k) (treeAsked x k box ring n p edge) (said (scanOf ring n p edge)))

@@ -10,6 +10,7 @@ ghost use Prim.Native.Nat.{_+_, _*_, _<_, _≤_};
 ghost use mathlib.Core.List.{[]};
 ghost use lib.ListN.{length, getD};
 ghost use lib.Dec.{leb};
+ghost use Rattle.rings.specs.Ring.{wide};
 ghost use Rattle.outline_ring.specs.RingIndex.{lent, stripesAsked, treeAsked, ringAsked};
 
 // Number i of a row of numbers; one that is missing counts as 0.
@@ -52,7 +53,7 @@ fn by_stripes(
     edge: bool,
 ) -> Answer
     requires { ⌜ (n * 2 + 2 ≤ length (now ring)) × (k < 64) ⌝ }
-    ensures { λ r. ⌜ r ≡ stripesAsked (lent (now (table .entry)) (now (spans .entry)) (now (stripes .entry)) (now (list .entry)) []) k (now (ring .entry)) n p edge ⌝ }
+    ensures { λ r. ⌜ r ≡ stripesAsked (lent (now (table .entry)) (now (spans .entry)) (now (stripes .entry)) (now (list .entry)) []) k (wide (now (ring .entry))) n p edge ⌝ }
 {
     let row = 10 * k;
     let from = number_at(table, row + 3);
@@ -90,7 +91,7 @@ fn by_tree(
     edge: bool,
 ) -> Answer
     requires { ⌜ (tree .segments * 2 + 2 ≤ length (now ring)) × (tree .segments < 4294967296) × (k < 64) ⌝ }
-    ensures { λ r. ⌜ r ≡ treeAsked (lent (now (table .entry)) [] [] [] (now (bytes .entry))) k (tree .bounds) (now (ring .entry)) (tree .segments) p edge ⌝ }
+    ensures { λ r. ⌜ r ≡ treeAsked (lent (now (table .entry)) [] [] [] (now (bytes .entry))) k (tree .bounds) (wide (now (ring .entry))) (tree .segments) p edge ⌝ }
 {
     let row = 10 * k;
     let at = number_at(table, row + 8);
@@ -116,7 +117,7 @@ pub fn ring_asked(
     edge: bool,
 ) -> Answer
     requires { ⌜ (tree .segments * 2 + 2 ≤ length (now ring)) × (tree .segments < 4294967296) × (k < 64) ⌝ }
-    ensures { λ r. ⌜ r ≡ ringAsked (lent (now (table .entry)) (now (spans .entry)) (now (stripes .entry)) (now (list .entry)) (now (bytes .entry))) k (tree .bounds) (now (ring .entry)) (tree .segments) p edge ⌝ }
+    ensures { λ r. ⌜ r ≡ ringAsked (lent (now (table .entry)) (now (spans .entry)) (now (stripes .entry)) (now (list .entry)) (now (bytes .entry))) k (tree .bounds) (wide (now (ring .entry))) (tree .segments) p edge ⌝ }
 {
     let n = tree.segments;
     let kinds = number_at(table, 10 * k + 2);

@@ -10,7 +10,7 @@ use Rattle.varint.specs.Leb128.{encode}
 use Rattle.varint.specs.Uvarint.{readUvarint}
 use Rattle.varint.specs.declared.ReadUvarint.the-variants.{Value}
 use Rattle.boxes.specs.declared.Point.{Point}
-use Rattle.rings.specs.Ring.{meeting}
+use Rattle.rings.specs.Ring.{wide, meeting}
 use Rattle.answers.specs.declared.Answer.{Answer}
 use Rattle.answers.specs.declared.Answer.the-variants.{Yes, No}
 use Rattle.stripes_place.specs.Stripe.{stripeOf}
@@ -78,11 +78,11 @@ pub record SampleSheet : Type 0 where
   pub snaps-away : scaledQuery (scaleOne IntegerMode) leftOf ≡ Grid (negsuc 0) (pos 5)
   pub snapped-out : (edge : Bool) → asked IntegerMode one S leftOf edge ≡ No
   -- "Lists in S: y 0 gives 0,1,3; y 10 gives 1,2,3; y -1 none."
-  pub list-at-0 : meeting S 5 (whole (pos 0)) ≡ 0 ∷ 1 ∷ 3 ∷ []
-  pub list-at-10 : meeting S 5 (whole (pos 10)) ≡ 1 ∷ 2 ∷ 3 ∷ []
-  pub list-below : meeting S 5 (whole (negsuc 0)) ≡ []
+  pub list-at-0 : meeting (wide S) 5 (whole (pos 0)) ≡ 0 ∷ 1 ∷ 3 ∷ []
+  pub list-at-10 : meeting (wide S) 5 (whole (pos 10)) ≡ 1 ∷ 2 ∷ 3 ∷ []
+  pub list-below : meeting (wide S) 5 (whole (negsuc 0)) ≡ []
   -- "S packs to 04 00 01 01 01 00." "300 is AC 02." "80 00 reads 0."
-  pub packs : packed (treeOf S 5) ≡ 0x04 ∷ 0x00 ∷ 0x01 ∷ 0x01 ∷ 0x01 ∷ 0x00 ∷ []
+  pub packs : packed (treeOf (wide S) 5) ≡ 0x04 ∷ 0x00 ∷ 0x01 ∷ 0x01 ∷ 0x01 ∷ 0x00 ∷ []
   pub three-hundred : encode 300 ≡ 0xAC ∷ 0x02 ∷ []
   pub eighty-nought : readUvarint 64 (0x80 ∷ 0x00 ∷ []) 0 ≡ Value 0 2
   -- "Stripe of 5, 10 with least 0, height 10, 32 stripes: 16, 31."

@@ -11,7 +11,7 @@ use lib.Ieee.Scale.{finite}
 use Rattle.answers.specs.declared.Answer.the-variants.{No}
 use Rattle.answers.specs.Answers.{said}
 use Rattle.boxes.specs.declared.Point.{Point}
-use Rattle.rings.specs.Ring.{meeting}
+use Rattle.rings.specs.Ring.{wide, meeting}
 use Rattle.rings.specs.I32s.{I32s}
 use Rattle.stripes_build.specs.declared.StripesStats.{StripesStats}
 use Rattle.stripes_build.specs.declared.StripesBuilt.the-variants.{Striped}
@@ -25,16 +25,16 @@ module _ (ring : List ℤ) (points threshold : ℕ) (nums : I32s ring) (stripes 
     (built : stripesBuilt ring points threshold stripes list ≡ (Striped least height stats, s, l)) where
   pub tests-as-scan : (p : Point) (edge : Bool)
       → stripesTested ring points least height (take (stats .stripes * 2) s) (take (stats .entries) l) p edge
-      ≡ scanTest ring points p edge
+      ≡ scanTest (wide ring) points p edge
   tests-as-scan p edge = go (finite (p .x) && finite (p .y)) refl
     where
       go : (b : Bool) → (finite (p .x) && finite (p .y)) ≡ b
           → stripesTested ring points least height (take (stats .stripes * 2) s) (take (stats .entries) l) p edge
-          ≡ cond b (said (testOf ring p edge (meeting ring points (p .y)))) No
+          ≡ cond b (said (testOf (wide ring) p edge (meeting (wide ring) points (p .y)))) No
       go true e =
-          tested-sound ring points least height (take (stats .stripes * 2) s) (take (stats .entries) l) p edge
+          tested-sound _ (wide ring) points least height (take (stats .stripes * 2) s) (take (stats .entries) l) p edge
           (built-sound ring points threshold nums stripes list least height stats s l built (p .y)) e
-          ∙ ap (verdict ring p edge) (finds-meeting ring points threshold nums stripes list least height stats s l built (p .y))
+          ∙ ap (verdict (wide ring) p edge) (finds-meeting ring points threshold nums stripes list least height stats s l built (p .y))
       go false e =
-          tested-unfit ring points least height (take (stats .stripes * 2) s) (take (stats .entries) l) p edge
+          tested-unfit _ (wide ring) points least height (take (stats .stripes * 2) s) (take (stats .entries) l) p edge
           (built-sound ring points threshold nums stripes list least height stats s l built (p .y)) e

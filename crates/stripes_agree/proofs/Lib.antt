@@ -1,5 +1,6 @@
 pub mod Span
-pub mod Ends
+pub mod Outside
 pub mod Found
+pub mod Law
 pub mod Demand
 pub mod AsScan

@@ -5,7 +5,6 @@ use mathlib.Core.List.{List}
 use mathlib.Core.Bool.{Bool, true, false, cond, _&&_}
 use native.Mathlib.Omega.{arith}
 use lib.ListN.{length}
-use lib.IntN.{ℤ}
 use lib.Dec.{leb, ltb}
 use lib.Ieee.{Float}
 use borrow.Author.Tests.{le-leb, leb-true, lt-leb, lt-ltb, le-ltb}
@@ -16,14 +15,13 @@ use Rattle.rings.specs.declared.Checked.{Checked}
 use Rattle.rings.specs.declared.Checked.the-variants.{Sound, Faulty}
 use Rattle.stripes_build.specs.declared.StripesStats.{StripesStats}
 use Rattle.rings.specs.Ring.{segments}
-use Rattle.rings.specs.Checks.{ringChecked}
 use Rattle.stripes_count.specs.Count.{stripeCount}
 use Rattle.stripes_build.specs.declared.StripesBuilt.the-variants.{Striped, Unstriped, StripesRefused}
 use Rattle.stripes_index.specs.Index.{leastY, heightY, crosses, tableOf, listOf, entriesOf, fullestOf}
-use Rattle.stripes_build.specs.Build.{Outcome, zeroed, crossesIn, statsOf, indexed, fromThreshold, whenSound, stripesBuilt}
+use Rattle.stripes_build.specs.Build.{Outcome, zeroed, crossesIn, statsOf, indexed, fromThreshold, whenSound, stripesBuiltBy}
 use Rattle.stripes_build.specs.Inner.Fill.{filledOf}
 
-module _ (ring : List ℤ) (n : ℕ) (least height : Float) (m : ℕ) (stripes list : List ℕ) where
+module _ (ring : ℕ → Float) (n : ℕ) (least height : Float) (m : ℕ) (stripes list : List ℕ) where
   pub filled-fits : entriesOf (crosses ring least height m) n m ≤ length list
       → filledOf ring n least height m stripes list
       ≡ (
@@ -40,7 +38,7 @@ module _ (ring : List ℤ) (n : ℕ) (least height : Float) (m : ℕ) (stripes l
   unfolding filledOf
   filled-short h = rw (lt-leb (entriesOf (crosses ring least height m) n m) (length list) h)
 
-module _ (ring : List ℤ) (n : ℕ) (stripes list : List ℕ) where
+module _ (ring : ℕ → Float) (n : ℕ) (stripes list : List ℕ) where
   pub indexed-few : stripeCount ring n ≤ 65536 → stripeCount ring n * 2 ≤ length stripes
       → indexed ring n stripes list ≡ filledOf ring n (leastY ring n) (heightY ring n) (stripeCount ring n) stripes list
   unfolding indexed filledOf
@@ -59,11 +57,11 @@ module _ (ring : List ℤ) (n : ℕ) (stripes list : List ℕ) where
       no false = refl
 
 -- only the room's sizes count
-pub indexed-room : (ring : List ℤ) (n : ℕ) (s s' l l' : List ℕ) → length s ≡ length s' → length l ≡ length l' → indexed ring n s l ≡ indexed ring n s' l'
+pub indexed-room : (ring : ℕ → Float) (n : ℕ) (s s' l l' : List ℕ) → length s ≡ length s' → length l ≡ length l' → indexed ring n s l ≡ indexed ring n s' l'
 unfolding indexed
 indexed-room ring n s s' l l' a b = rw (a, b)
 
-module _ (ring : List ℤ) (n threshold : ℕ) (stripes list : List ℕ) where
+module _ (ring : ℕ → Float) (n threshold : ℕ) (stripes list : List ℕ) where
   pub from-under : n < threshold → fromThreshold ring n threshold stripes list ≡ zeroed Unstriped stripes list
   unfolding fromThreshold
   from-under h = rw (lt-ltb n threshold h)
@@ -72,17 +70,17 @@ module _ (ring : List ℤ) (n threshold : ℕ) (stripes list : List ℕ) where
   unfolding fromThreshold
   from-reached h = rw (le-ltb n threshold h)
 
-module _ (ring : List ℤ) (points threshold : ℕ) (stripes list : List ℕ) where
-  pub built-faulty : (why : Refusal) → ringChecked ring points ≡ Faulty why → stripesBuilt ring points threshold stripes list ≡ (StripesRefused why, stripes, list)
-  unfolding stripesBuilt
+module _ (checked : Checked) (ring : ℕ → Float) (points threshold : ℕ) (stripes list : List ℕ) where
+  pub built-faulty : (why : Refusal) → checked ≡ Faulty why → stripesBuiltBy checked ring points threshold stripes list ≡ (StripesRefused why, stripes, list)
+  unfolding stripesBuiltBy
   built-faulty why e = rw e
 
-  pub built-sound : ringChecked ring points ≡ Sound → stripesBuilt ring points threshold stripes list ≡ fromThreshold ring (segments points) threshold stripes list
-  unfolding stripesBuilt
+  pub built-sound : checked ≡ Sound → stripesBuiltBy checked ring points threshold stripes list ≡ fromThreshold ring (segments points) threshold stripes list
+  unfolding stripesBuiltBy
   built-sound e = rw e
 
 -- ---- what a successful building says
-pub record Indexed (ring : List ℤ) (n : ℕ) (stripes list : List ℕ) (least height : Float) (stats : StripesStats) (s l : List ℕ) : Type 0 where
+pub record Indexed (ring : ℕ → Float) (n : ℕ) (stripes list : List ℕ) (least height : Float) (stats : StripesStats) (s l : List ℕ) : Type 0 where
   pub few : stripeCount ring n ≤ 65536
   pub wide : stripeCount ring n * 2 ≤ length stripes
   pub roomy : entriesOf (crossesIn ring n) n (stripeCount ring n) ≤ length list
@@ -92,7 +90,7 @@ pub record Indexed (ring : List ℤ) (n : ℕ) (stripes list : List ℕ) (least 
   pub table : s ≡ pad (length stripes) (tableOf (crossesIn ring n) n (stripeCount ring n))
   pub numbers : l ≡ pad (length list) (listOf (crossesIn ring n) n (stripeCount ring n))
 
-module _ (ring : List ℤ) (n : ℕ) (stripes list : List ℕ) (least height : Float) (stats : StripesStats) (s l : List ℕ) where
+module _ (ring : ℕ → Float) (n : ℕ) (stripes list : List ℕ) (least height : Float) (stats : StripesStats) (s l : List ℕ) where
   indexed-is : indexed ring n stripes list ≡ (Striped least height stats, s, l) → Indexed ring n stripes list least height stats s l
   unfolding indexed
   indexed-is e =
@@ -131,10 +129,10 @@ module _ (ring : List ℤ) (n : ℕ) (stripes list : List ℕ) (least height : F
       go true false c p q r w = absurd (never _ _ w)
       go false b c p q r w = absurd (never _ _ w)
 
-  pub built-is : (points threshold : ℕ) → n ≡ segments points → stripesBuilt ring points threshold stripes list ≡ (Striped least height stats, s, l)
-      → (ringChecked ring points ≡ Sound) × Indexed ring n stripes list least height stats s l
-  unfolding stripesBuilt fromThreshold
-  built-is points threshold same e = rw (← same) at (go (ringChecked ring points) (ltb (segments points) threshold) refl e)
+  pub built-is : (checked : Checked) (points threshold : ℕ) → n ≡ segments points → stripesBuiltBy checked ring points threshold stripes list ≡ (Striped least height stats, s, l)
+      → (checked ≡ Sound) × Indexed ring n stripes list least height stats s l
+  unfolding stripesBuiltBy fromThreshold
+  built-is checked points threshold same e = rw (← same) at (go checked (ltb (segments points) threshold) refl e)
     where
       refused : (why : Refusal) (x y : List ℕ) → _≡_ {A = Outcome} (StripesRefused why, x, y) (Striped least height stats, s, l) → ⊥
       refused why x y w = let f : StripesRefused why ≡ Striped least height stats = ap (λ (o : Outcome). o .0) w in let z : _≡_ {A = ℕ} 0 1 = cc in omega arith
@@ -142,9 +140,9 @@ module _ (ring : List ℤ) (n : ℕ) (stripes list : List ℕ) (least height : F
       under : (x y : List ℕ) → _≡_ {A = Outcome} (Unstriped, x, y) (Striped least height stats, s, l) → ⊥
       under x y w = let f : Unstriped ≡ Striped least height stats = ap (λ (o : Outcome). o .0) w in let z : _≡_ {A = ℕ} 0 1 = cc in omega arith
 
-      go : (k : Checked) (b : Bool) → ringChecked ring points ≡ k
+      go : (k : Checked) (b : Bool) → checked ≡ k
           → whenSound k stripes list (cond b (zeroed Unstriped stripes list) (indexed ring (segments points) stripes list)) ≡ (Striped least height stats, s, l)
-          → (ringChecked ring points ≡ Sound) × Indexed ring (segments points) stripes list least height stats s l
+          → (checked ≡ Sound) × Indexed ring (segments points) stripes list least height stats s l
       go Sound false p w = (p, rw same at (indexed-is (rw same w)))
       go Sound true p w = absurd (under _ _ w)
       go (Faulty why) b p w = absurd (refused why _ _ w)

@@ -13,6 +13,7 @@ use room::wide;
 ghost use mathlib.Core.Path.{_≡_};
 ghost use Prim.Native.Nat.{_+_, _*_, _<_, _≤_};
 ghost use lib.ListN.{length, replicate};
+ghost use Rattle.rings.specs.Ring.{wide};
 ghost use Rattle.room.specs.Room.{pad};
 ghost use Rattle.stripes_index.specs.Index.{crosses, tableOf, listOf};
 ghost use Rattle.stripes_index.specs.Inner.States.{held, tableAt, listAt};
@@ -49,12 +50,12 @@ fn enter_segment(
     stripes: &mut [u32],
     list: &mut [u32],
 )
-    requires { ⌜ (i < held (now ring)) × (held (now ring) ≤ 4096) × (0 < m) × (m * 2 ≤ length (now stripes)) ⌝ }
-    requires { ⌜ length (listOf (crosses (now ring) least height m) (held (now ring)) m) ≤ length (now list) ⌝ }
-    requires { ⌜ now stripes ≡ pad (length (now stripes)) (tableAt (crosses (now ring) least height m) m (held (now ring)) i) ⌝ }
-    requires { ⌜ now list ≡ pad (length (now list)) (listAt (crosses (now ring) least height m) m (held (now ring)) i) ⌝ }
-    ensures { λ _. ⌜ now (stripes .exit) ≡ pad (length (now (stripes .entry))) (tableAt (crosses (now (ring .entry)) least height m) m (held (now (ring .entry))) (i + 1)) ⌝ }
-    ensures { λ _. ⌜ now (list .exit) ≡ pad (length (now (list .entry))) (listAt (crosses (now (ring .entry)) least height m) m (held (now (ring .entry))) (i + 1)) ⌝ }
+    requires { ⌜ (i < held (length (now ring))) × (held (length (now ring)) ≤ 4096) × (0 < m) × (m * 2 ≤ length (now stripes)) ⌝ }
+    requires { ⌜ length (listOf (crosses (wide (now ring)) least height m) (held (length (now ring))) m) ≤ length (now list) ⌝ }
+    requires { ⌜ now stripes ≡ pad (length (now stripes)) (tableAt (crosses (wide (now ring)) least height m) m (held (length (now ring))) i) ⌝ }
+    requires { ⌜ now list ≡ pad (length (now list)) (listAt (crosses (wide (now ring)) least height m) m (held (length (now ring))) i) ⌝ }
+    ensures { λ _. ⌜ now (stripes .exit) ≡ pad (length (now (stripes .entry))) (tableAt (crosses (wide (now (ring .entry))) least height m) m (held (length (now (ring .entry)))) (i + 1)) ⌝ }
+    ensures { λ _. ⌜ now (list .exit) ≡ pad (length (now (list .entry))) (listAt (crosses (wide (now (ring .entry))) least height m) m (held (length (now (ring .entry)))) (i + 1)) ⌝ }
 {
     let last = stripe_of(high_end(ring, i), least, height, m);
     let mut s = stripe_of(low_end(ring, i), least, height, m);
@@ -77,12 +78,12 @@ fn enter_all(
     stripes: &mut [u32],
     list: &mut [u32],
 )
-    requires { ⌜ (n ≡ held (now ring)) × (n ≤ 4096) × (0 < m) × (m * 2 ≤ length (now stripes)) ⌝ }
-    requires { ⌜ length (listOf (crosses (now ring) least height m) n m) ≤ length (now list) ⌝ }
-    requires { ⌜ now stripes ≡ pad (length (now stripes)) (tableAt (crosses (now ring) least height m) m n 0) ⌝ }
+    requires { ⌜ (n ≡ held (length (now ring))) × (n ≤ 4096) × (0 < m) × (m * 2 ≤ length (now stripes)) ⌝ }
+    requires { ⌜ length (listOf (crosses (wide (now ring)) least height m) n m) ≤ length (now list) ⌝ }
+    requires { ⌜ now stripes ≡ pad (length (now stripes)) (tableAt (crosses (wide (now ring)) least height m) m n 0) ⌝ }
     requires { ⌜ now list ≡ replicate (length (now list)) 0 ⌝ }
-    ensures { λ _. ⌜ now (stripes .exit) ≡ pad (length (now (stripes .entry))) (tableOf (crosses (now (ring .entry)) least height m) n m) ⌝ }
-    ensures { λ _. ⌜ now (list .exit) ≡ pad (length (now (list .entry))) (listOf (crosses (now (ring .entry)) least height m) n m) ⌝ }
+    ensures { λ _. ⌜ now (stripes .exit) ≡ pad (length (now (stripes .entry))) (tableOf (crosses (wide (now (ring .entry))) least height m) n m) ⌝ }
+    ensures { λ _. ⌜ now (list .exit) ≡ pad (length (now (list .entry))) (listOf (crosses (wide (now (ring .entry))) least height m) n m) ⌝ }
 {
     let mut i: usize = 0;
     while i < n {
@@ -101,10 +102,10 @@ fn fill(
     stripes: &mut [u32],
     list: &mut [u32],
 ) -> StripesBuilt
-    requires { ⌜ (n ≡ held (now ring)) × (0 < n) × (n ≤ 4096) × (0 < m) × (m ≤ 65536) × (m * 2 ≤ length (now stripes)) ⌝ }
+    requires { ⌜ (n ≡ held (length (now ring))) × (0 < n) × (n ≤ 4096) × (0 < m) × (m ≤ 65536) × (m * 2 ≤ length (now stripes)) ⌝ }
     requires { ⌜ now stripes ≡ replicate (length (now stripes)) 0 ⌝ }
     requires { ⌜ now list ≡ replicate (length (now list)) 0 ⌝ }
-    ensures { λ r. ⌜ filledOf (now (ring .entry)) n least height m (now (stripes .entry)) (now (list .entry)) ≡ (r, now (stripes .exit), now (list .exit)) ⌝ }
+    ensures { λ r. ⌜ filledOf (wide (now (ring .entry))) n least height m (now (stripes .entry)) (now (list .entry)) ≡ (r, now (stripes .exit), now (list .exit)) ⌝ }
 {
     let totals = prepare(ring, n, least, height, m, stripes);
     let entries = totals.entries;
@@ -128,10 +129,10 @@ fn fill(
 
 // The index of a ring that passed the checks and reached the threshold. The room is zero.
 fn build_checked(ring: &[i32], n: usize, stripes: &mut [u32], list: &mut [u32]) -> StripesBuilt
-    requires { ⌜ (n ≡ held (now ring)) × (0 < n) × (n ≤ 4096) ⌝ }
+    requires { ⌜ (n ≡ held (length (now ring))) × (0 < n) × (n ≤ 4096) ⌝ }
     requires { ⌜ now stripes ≡ replicate (length (now stripes)) 0 ⌝ }
     requires { ⌜ now list ≡ replicate (length (now list)) 0 ⌝ }
-    ensures { λ r. ⌜ indexed (now (ring .entry)) n (now (stripes .entry)) (now (list .entry)) ≡ (r, now (stripes .exit), now (list .exit)) ⌝ }
+    ensures { λ r. ⌜ indexed (wide (now (ring .entry))) n (now (stripes .entry)) (now (list .entry)) ≡ (r, now (stripes .exit), now (list .exit)) ⌝ }
 {
     let called = stripe_count(ring, n);
     if StripesStats::MAX_STRIPES < called {
@@ -154,8 +155,8 @@ fn build_sound(
     stripes: &mut [u32],
     list: &mut [u32],
 ) -> StripesBuilt
-    requires { ⌜ (n ≡ held (now ring)) × (0 < n) × (n ≤ 4096) ⌝ }
-    ensures { λ r. ⌜ fromThreshold (now (ring .entry)) n threshold (now (stripes .entry)) (now (list .entry)) ≡ (r, now (stripes .exit), now (list .exit)) ⌝ }
+    requires { ⌜ (n ≡ held (length (now ring))) × (0 < n) × (n ≤ 4096) ⌝ }
+    ensures { λ r. ⌜ fromThreshold (wide (now (ring .entry))) n threshold (now (stripes .entry)) (now (list .entry)) ≡ (r, now (stripes .exit), now (list .exit)) ⌝ }
 {
     zero_fill_u32(stripes);
     zero_fill_u32(list);

@@ -1,11 +1,10 @@
 -- There are at least 32 stripes. Assumes nothing.
-use mathlib.Core.List.{List}
 use Prim.Native.Nat.{ℕ, _≤_, max}
 use native.Mathlib.Omega.{arith}
-use lib.IntN.{ℤ}
+use lib.Ieee.{Float}
 use Rattle.stripes_count.specs.Count.{stripeCount}
 
-pub some-stripes : (ring : List ℤ) (n : ℕ) → 32 ≤ stripeCount ring n
+pub some-stripes : (ring : ℕ → Float) (n : ℕ) → 32 ≤ stripeCount ring n
 unfolding stripeCount
 some-stripes ring n = least _
   where

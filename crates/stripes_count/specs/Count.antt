@@ -1,24 +1,18 @@
 -- 01, "Stripes": how many stripes a ring calls for. Each operation rounds once, in the order written.
--- A ring is its numbers, x then y for each point; its segment i goes from point i to point i + 1.
+-- A ring is its numbers as floats, by place, x then y for each point; its segment i goes from point i to point i + 1. No kind that they are stored in
+-- is spoken of.
 use mathlib.Core.Bool.{cond}
-use mathlib.Core.List.{List}
 use Prim.Native.Nat.{ℕ, zero, suc, _+_, _*_, max}
-use lib.ListN.{getD}
-use lib.IntN.{ℤ, pos}
+use lib.IntN.{pos}
 use lib.Ieee.{Float, binary64, eq, add, sub, mul, div, ofInt, ofBits}
 use Rattle.floats.specs.Values.{absOf}
 use Rattle.root.specs.Computed.{sqrtOf}
 use Rattle.whole.specs.Floor.{floorWithin}
 use Rattle.stripes_count.specs.declared.Ends.{Ends}
 
--- coordinate i as a float, which holds every i32
-abbrev pub coordinateAt : List ℤ → ℕ → Float
-coordinateAt ring i = ofInt binary64 (getD ring i (pos 0))
-
 -- the ends of segment i
-abbrev pub endsAt : List ℤ → ℕ → Ends
-endsAt ring i =
-    record { ax = coordinateAt ring (i * 2); ay = coordinateAt ring (i * 2 + 1); bx = coordinateAt ring (i * 2 + 2); by = coordinateAt ring (i * 2 + 3) }
+abbrev pub endsAt : (ℕ → Float) → ℕ → Ends
+endsAt ring i = record { ax = ring (i * 2); ay = ring (i * 2 + 1); bx = ring (i * 2 + 2); by = ring (i * 2 + 3) }
 
 -- a.x*b.y - b.x*a.y
 abbrev pub crossOf : Ends → Float
@@ -37,11 +31,11 @@ sumTo term zero = ofBits binary64 0
 sumTo term (suc k) = add binary64 (sumTo term k) (term k)
 
 -- "Area: sum a.x*b.y - b.x*a.y in order, absolute, times 0.5."
-abbrev pub areaOf : List ℤ → ℕ → Float
+abbrev pub areaOf : (ℕ → Float) → ℕ → Float
 areaOf ring n = mul binary64 (absOf (sumTo (λ i. crossOf (endsAt ring i)) n)) (ofBits binary64 0x3fe0_0000_0000_0000)
 
 -- "Perimeter: sum of square roots of dx*dx + dy*dy."
-abbrev pub perimeterOf : List ℤ → ℕ → Float
+abbrev pub perimeterOf : (ℕ → Float) → ℕ → Float
 perimeterOf ring n = sumTo (λ i. lengthOf (endsAt ring i)) n
 
 -- "score = (area * PI * 4)/(perimeter * perimeter), 0 if perimeter is 0; PI has bits 400921FB54442D18."
@@ -53,5 +47,5 @@ scoreOf area perimeter =
 
 -- "Stripe count: the greater of 32 and floor(n * score)", of a ring with n segments. The floor is held to what 64 bits count, which is
 -- over 65,536 and so refused.
-unfoldable pub stripeCount : List ℤ → ℕ → ℕ
+unfoldable pub stripeCount : (ℕ → Float) → ℕ → ℕ
 stripeCount ring n = max 32 (floorWithin 0xffff_ffff_ffff_ffff (mul binary64 (ofInt binary64 (pos n)) (scoreOf (areaOf ring n) (perimeterOf ring n))))

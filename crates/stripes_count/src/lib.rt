@@ -4,6 +4,7 @@ use whole::floor_within;
 ghost use mathlib.Core.Path.{_≡_};
 ghost use Prim.Native.Nat.{_+_, _*_, _<_, _≤_};
 ghost use lib.ListN.{length};
+ghost use Rattle.rings.specs.Ring.{wide};
 ghost use Rattle.stripes_count.specs.Count.{endsAt, crossOf, lengthOf, sumTo, areaOf, perimeterOf, scoreOf, stripeCount};
 
 // A segment's ends as floats.
@@ -17,7 +18,7 @@ struct Ends {
 // The ends of segment i.
 fn ends_at(ring: &[i32], i: usize) -> Ends
     requires { ⌜ i * 2 + 3 < length (now ring) ⌝ }
-    ensures { λ r. ⌜ r ≡ endsAt (now (ring .entry)) i ⌝ }
+    ensures { λ r. ⌜ r ≡ endsAt (wide (now (ring .entry))) i ⌝ }
 {
     let ax = coordinate(ring, i * 2);
     let ay = coordinate(ring, i * 2 + 1);
@@ -44,7 +45,7 @@ fn side_length(s: Ends) -> f64
 
 fn area(ring: &[i32], segments: usize) -> f64
     requires { ⌜ segments * 2 + 2 ≤ length (now ring) ⌝ }
-    ensures { λ r. ⌜ r ≡ areaOf (now (ring .entry)) segments ⌝ }
+    ensures { λ r. ⌜ r ≡ areaOf (wide (now (ring .entry))) segments ⌝ }
 {
     let mut sum = 0.0;
     let mut i: usize = 0;
@@ -57,7 +58,7 @@ fn area(ring: &[i32], segments: usize) -> f64
 
 fn perimeter(ring: &[i32], segments: usize) -> f64
     requires { ⌜ segments * 2 + 2 ≤ length (now ring) ⌝ }
-    ensures { λ r. ⌜ r ≡ perimeterOf (now (ring .entry)) segments ⌝ }
+    ensures { λ r. ⌜ r ≡ perimeterOf (wide (now (ring .entry))) segments ⌝ }
 {
     let mut sum = 0.0;
     let mut i: usize = 0;
@@ -81,7 +82,7 @@ fn score(area: f64, perimeter: f64) -> f64
 // checked the ring.
 pub fn stripe_count(ring: &[i32], segments: usize) -> u64
     requires { ⌜ segments * 2 + 2 ≤ length (now ring) ⌝ }
-    ensures { λ r. ⌜ r ≡ stripeCount (now (ring .entry)) segments ⌝ }
+    ensures { λ r. ⌜ r ≡ stripeCount (wide (now (ring .entry))) segments ⌝ }
 {
     let n = std::num::nearest_u64_to_f64(segments as u64);
     let score = score(area(ring, segments), perimeter(ring, segments));

@@ -5,7 +5,6 @@ use mathlib.Core.List.{List, []}
 use Prim.Native.Nat.{ℕ, _≤_, _<_}
 use native.Mathlib.Omega.{arith}
 use lib.ListN.{length, replicate}
-use lib.IntN.{ℤ}
 use lib.Dec.{leb}
 use lib.Ieee.{Float}
 use lib.Ieee.Scale.{finite}
@@ -14,12 +13,12 @@ use Rattle.answers.specs.declared.Refusal.{Refusal}
 use Rattle.answers.specs.declared.Refusal.the-variants.{BadHeight, NoRoom, Damaged}
 use Rattle.room.specs.Room.{pad}
 use Rattle.room.proofs.Fill.{pad-none}
+use Rattle.rings.specs.declared.Checked.{Checked}
 use Rattle.rings.specs.declared.Checked.the-variants.{Sound, Faulty}
-use Rattle.rings.specs.Ring.{wide, sideAt, segments, holdsHeight}
-use Rattle.rings.specs.Checks.{ringChecked}
+use Rattle.rings.specs.Ring.{sideAt, segments, holdsHeight}
 use Rattle.stripes_find.specs.declared.StripesListed.the-variants.{StripesFound, StripesUnlisted}
 use Rattle.stripes_find.specs.Search.{Reading, Ending, complete, damagedAt, outside, readStripe, searchedBy, searched}
-use Rattle.stripes_find.specs.Listing.{Outcome, refused, ended, poured, stripesListed}
+use Rattle.stripes_find.specs.Listing.{Outcome, refused, ended, poured, stripesListedBy}
 
 module _ (found : List ℕ) (ending : Ending) (out : List ℕ) where
   pub poured-whole : length found ≤ length out → ending ≡ complete
@@ -56,16 +55,16 @@ module _ (ring : ℕ → Float) (n : ℕ) (least height : Float) (stripes list :
   unfolding searchedBy
   searched-within e = rw e
 
-module _ (ring : List ℤ) (points : ℕ) (least height : Float) (stripes list : List ℕ) (y : Float) (out : List ℕ) where
-  pub listed-faulty : (why : Refusal) → ringChecked ring points ≡ Faulty why → stripesListed ring points least height stripes list y out ≡ (StripesUnlisted why, out)
-  unfolding stripesListed
+module _ (checked : Checked) (ring : ℕ → Float) (points : ℕ) (least height : Float) (stripes list : List ℕ) (y : Float) (out : List ℕ) where
+  pub listed-faulty : (why : Refusal) → checked ≡ Faulty why → stripesListedBy checked ring points least height stripes list y out ≡ (StripesUnlisted why, out)
+  unfolding stripesListedBy
   listed-faulty why e = rw e
 
-  pub listed-height : ringChecked ring points ≡ Sound → finite y ≡ false → stripesListed ring points least height stripes list y out ≡ (StripesUnlisted BadHeight, out)
-  unfolding stripesListed
+  pub listed-height : checked ≡ Sound → finite y ≡ false → stripesListedBy checked ring points least height stripes list y out ≡ (StripesUnlisted BadHeight, out)
+  unfolding stripesListedBy
   listed-height e f = rw (e, f)
 
-  pub listed-sound : ringChecked ring points ≡ Sound → finite y ≡ true
-      → stripesListed ring points least height stripes list y out ≡ poured (searched (wide ring) (segments points) least height stripes list y) out
-  unfolding stripesListed
+  pub listed-sound : checked ≡ Sound → finite y ≡ true
+      → stripesListedBy checked ring points least height stripes list y out ≡ poured (searched ring (segments points) least height stripes list y) out
+  unfolding stripesListedBy
   listed-sound e f = rw (e, f)

@@ -40,7 +40,12 @@ abbrev pub whenSound : Checked → List ℕ → Outcome → Outcome
 whenSound Sound out later = later
 whenSound (Faulty why) out later = (StripesUnlisted why, out)
 
-unfoldable pub stripesListed : List ℤ → ℕ → Float → Float → List ℕ → List ℕ → Float → List ℕ → Outcome
-stripesListed ring points least height stripes list y out =
-    whenSound (ringChecked ring points) out
-    (cond (finite y) (poured (searched (wide ring) (segments points) least height stripes list y) out) (StripesUnlisted BadHeight, out))
+-- listing by stripes. What the checks found is given, since they look at the stored numbers and what follows does not
+unfoldable pub stripesListedBy : Checked → (ℕ → Float) → ℕ → Float → Float → List ℕ → List ℕ → Float → List ℕ → Outcome
+stripesListedBy checked ring points least height stripes list y out =
+    whenSound checked out
+    (cond (finite y) (poured (searched ring (segments points) least height stripes list y) out) (StripesUnlisted BadHeight, out))
+
+-- of a stored ring
+abbrev pub stripesListed : List ℤ → ℕ → Float → Float → List ℕ → List ℕ → Float → List ℕ → Outcome
+stripesListed ring points least height stripes list y out = stripesListedBy (ringChecked ring points) (wide ring) points least height stripes list y out

@@ -49,17 +49,14 @@ readStripe n meets least height stripes list y =
     (record { found = []; ending = damagedAt (length list) })
     (record { found = foundIn n meets part; ending = endIn n start part }))
 
--- in a ring with n segments: nothing is found where y is outside of the ring's heights, "before any damage is looked for"
+-- In a ring with n segments: nothing is found outside of the ring's heights, "before any damage is looked for". Whether y is outside is given: that is
+-- for the index to say, by what it keeps of the heights.
 unfoldable pub searchedBy : Bool → (ℕ → Float) → ℕ → Float → Float → List ℕ → List ℕ → Float → Reading
 searchedBy out ring n least height stripes list y =
     cond out
     (record { found = []; ending = complete })
     (readStripe n (λ i. holdsHeight (sideAt ring i) y) least height stripes list y)
 
--- an index of whole numbers keeps the least y and the height
+-- an index keeps the least y and the height
 abbrev pub searched : (ℕ → Float) → ℕ → Float → Float → List ℕ → List ℕ → Float → Reading
 searched ring n least height stripes list y = searchedBy (outside y least height) ring n least height stripes list y
-
--- one of floats the greatest y too
-abbrev pub beyond : Float → Float → Float → Bool
-beyond y least top = lt y least || lt top y

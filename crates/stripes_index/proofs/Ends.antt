@@ -1,21 +1,16 @@
 -- A ring's least y and height hold every segment between them, whatever kind its numbers are: they need only be coordinates. Assumes nothing.
-use mathlib.Core.Path.{_≡_, refl, sym, ap, subst}
+use mathlib.Core.Path.{_≡_, sym, subst}
 use mathlib.Core.Logic.{_⊎_, inl, inr}
 use Prim.Native.Nat.{ℕ, zero, suc, _+_, _*_, _≤_, _<_}
 use native.Mathlib.Omega.{arith}
 use native.Mathlib.Nat.{zero-lt-suc, zero-mul}
-use mathlib.Core.Bool.{Bool, true, false, _&&_, _||_, true≢false}
+use mathlib.Core.Bool.{true, false, true≢false}
 use lib.Dec.{T, lt→ltb}
-use lib.Ieee.{Float, nan, inf, fin, binary64, isNan, lt, le, eq, ne, ofBits, sub}
-use lib.Ieee.Fits.{and-l, and-r}
+use lib.Ieee.{Float, nan, inf, fin, binary64, isNan, le, eq, ofBits}
 use lib.Ieee.Scale.{finite}
-use lib.Ieee.Positive.{positive}
 use Rattle.room.proofs.Cases.{lt-or}
-use Rattle.floats.specs.Values.{lesserOf, greaterOf}
-use Rattle.floats.specs.Inner.NextBits.{pickF}
-use Rattle.floats.proofs.Parts.{or-split}
 use Rattle.floats.proofs.Order.{le-trans, le-refl}
-use Rattle.floats.proofs.Values.{lesser-le, le-greater}
+use Rattle.floats.proofs.Values.{lesser-le, le-greater, lesser-either, greater-either, between}
 use Rattle.floats.proofs.Rise.{Nonneg, sub-nonneg}
 use Rattle.boxes.proofs.Sizes.{Coordinate, coordinate-number, difference-finite}
 use Rattle.rings.specs.Ring.{sideAt, holdsHeight}
@@ -29,32 +24,6 @@ is-finite : (x : Float) → Coordinate x → T (finite x)
 is-finite nan c = c .1
 is-finite (inf s) c = c .1
 is-finite (fin s m e) c = tt
-
-module _ (P : Float → Type 0) (x y : Float) (p : P x) (q : P y) where
-  lesser-either : P (lesserOf x y)
-  unfolding lesserOf
-  lesser-either = go (lt y x || ne x x)
-    where
-      go : (b : Bool) → P (pickF b y x)
-      go true = q
-      go false = p
-
-  greater-either : P (greaterOf x y)
-  unfolding greaterOf
-  greater-either = go (lt x y || ne x x)
-    where
-      go : (b : Bool) → P (pickF b y x)
-      go true = q
-      go false = p
-
-within : (a b y : Float) → isNan a ≡ false → isNan b ≡ false → T (le a y && le y b || le b y && le y a) → T (le (lesserOf a b) y) × T (le y (greaterOf a b))
-within a b y p q h =
-    let l = lesser-le a b p q in
-    let g = le-greater a b p q in
-    elim (or-split (le a y && le y b) (le b y && le y a) h) [
-      | inl u ↦ (le-trans (lesserOf a b) a y (l .0) (and-l (le a y) (le y b) u), le-trans y b (greaterOf a b) (and-r (le a y) (le y b) u) (g .1))
-      | inr u ↦ (le-trans (lesserOf a b) b y (l .1) (and-l (le b y) (le y a) u), le-trans y a (greaterOf a b) (and-r (le b y) (le y a) u) (g .0))
-    ]
 
 -- a finite float not below 0 is 0, or above it
 tall-of : (h : Float) → Nonneg h → T (finite h) → Tall h
@@ -122,9 +91,7 @@ module _ (ring : ℕ → Float) (n : ℕ) (nums : (k : ℕ) → k < n * 2 + 2 �
 
   -- a segment's own range lies from its low end to its high end
   pub holds-between : (i : ℕ) (y : Float) → i < n → holdsHeight (sideAt ring i) y ≡ true → T (le (lowEnd ring i) y) × T (le y (highEnd ring i))
-  holds-between i y h e =
-      within (ring (i * 2 + 1)) (ring (i * 2 + 3)) y
-      (no-nan _ (nums (i * 2 + 1) (omega arith))) (no-nan _ (nums (i * 2 + 3) (omega arith))) (subst T (sym e) tt)
+  holds-between i y h e = between (ring (i * 2 + 1)) (ring (i * 2 + 3)) y (subst T (sym e) tt)
 
   -- and within the ring's
   pub holds-within : (i : ℕ) (y : Float) → i < n → holdsHeight (sideAt ring i) y ≡ true → T (le (leastY ring n) y) × T (le y (greatestY ring n))

@@ -10,7 +10,8 @@ use Rattle.answers.specs.declared.Answer.{Answer}
 use Rattle.answers.specs.declared.Answer.the-variants.{No, Refused}
 use Rattle.answers.specs.Answers.{said}
 use Rattle.boxes.specs.declared.Point.{Point}
-use Rattle.rings.specs.Ring.{segments}
+use Rattle.rings.specs.declared.Checked.{Checked}
+use Rattle.rings.specs.Ring.{wide, segments}
 use Rattle.rings.specs.Checks.{ringChecked, whenSound}
 use Rattle.cast_test.specs.Test.{testOf}
 use Rattle.stripes_find.specs.Search.{Reading, Ending, complete, damagedAt, searched}
@@ -20,11 +21,16 @@ abbrev pub unless : Ending → Answer → Answer
 unless complete answer = answer
 unless (damagedAt place) answer = Refused (Damaged place)
 
-abbrev pub verdict : List ℤ → Point → Bool → Reading → Answer
+abbrev pub verdict : (ℕ → Float) → Point → Bool → Reading → Answer
 verdict ring p edge r = unless (r .ending) (said (testOf ring p edge (r .found)))
 
--- The checks come first. "a query that is NaN or infinite .. is outside"
-unfoldable pub stripesTested : List ℤ → ℕ → Float → Float → List ℕ → List ℕ → Point → Bool → Answer
-stripesTested ring points least height stripes list p edge =
-    whenSound (ringChecked ring points)
+-- The checks come first; what they found is given, since they look at the stored numbers and what follows does not. "a query that is NaN or infinite ..
+-- is outside"
+unfoldable pub stripesTestedBy : Checked → (ℕ → Float) → ℕ → Float → Float → List ℕ → List ℕ → Point → Bool → Answer
+stripesTestedBy checked ring points least height stripes list p edge =
+    whenSound checked
     (cond (finite (p .x) && finite (p .y)) (verdict ring p edge (searched ring (segments points) least height stripes list (p .y))) No)
+
+-- of a stored ring
+abbrev pub stripesTested : List ℤ → ℕ → Float → Float → List ℕ → List ℕ → Point → Bool → Answer
+stripesTested ring points least height stripes list p edge = stripesTestedBy (ringChecked ring points) (wide ring) points least height stripes list p edge

@@ -10,6 +10,7 @@ use room::wide;
 ghost use mathlib.Core.Path.{_≡_};
 ghost use Prim.Native.Nat.{_+_, _*_, _<_, _≤_};
 ghost use lib.ListN.{length};
+ghost use Rattle.rings.specs.Ring.{wide};
 ghost use Rattle.stripes_find.specs.Search.{searched};
 ghost use Rattle.stripes_find.specs.Inner.Part.{runRead};
 ghost use Rattle.stripes_test.specs.Test.{verdict, stripesTested};
@@ -25,7 +26,7 @@ fn test_run(
     edge: bool,
 ) -> Answer
     requires { ⌜ (n * 2 + 2 ≤ length (now ring)) × (start ≤ past) × (past ≤ length (now list)) ⌝ }
-    ensures { λ r. ⌜ r ≡ verdict (now (ring .entry)) p edge (runRead (now (ring .entry)) n (now (list .entry)) start past (p .y)) ⌝ }
+    ensures { λ r. ⌜ r ≡ verdict (wide (now (ring .entry))) p edge (runRead (wide (now (ring .entry))) n (now (list .entry)) start past (p .y)) ⌝ }
 {
     let mut seen = Seen {
         on: false,
@@ -58,7 +59,7 @@ pub fn test_in(
     edge: bool,
 ) -> Answer
     requires { ⌜ n * 2 + 2 ≤ length (now ring) ⌝ }
-    ensures { λ r. ⌜ r ≡ verdict (now (ring .entry)) p edge (searched (now (ring .entry)) n least height (now (stripes .entry)) (now (list .entry)) (p .y)) ⌝ }
+    ensures { λ r. ⌜ r ≡ verdict (wide (now (ring .entry))) p edge (searched (wide (now (ring .entry))) n least height (now (stripes .entry)) (now (list .entry)) (p .y)) ⌝ }
 {
     let y = p.y;
     if stripes_find::is_outside(y, least, height) {

@@ -5,7 +5,7 @@ use mathlib.Core.List.{List, [], _∷_, _++_}
 use mathlib.Core.Bool.{Bool, true, false, cond, _&&_}
 use lib.Dec.{leb}
 use lib.ListN.{length, take}
-use lib.IntN.{ℤ}
+use lib.Ieee.{Float}
 use Rattle.answers.specs.declared.Refusal.the-variants.{NoRoom}
 use Rattle.room.specs.Numbers.{bit}
 use Rattle.room.specs.Room.{pad}
@@ -50,7 +50,7 @@ abbrev pub rowNumbers : ℕ → BuildOptions → Places → Gain → List ℕ
 rowNumbers n options at g =
     n ∷ bit (saysUnder options n) ∷ g .kinds ∷ at .stripes ∷ g .stripes ∷ at .list ∷ g .entries ∷ g .fullest ∷ at .bytes ∷ g .bytes ∷ []
 
-module _ (options : BuildOptions) (ring : List ℤ) (points : ℕ) where
+module _ (options : BuildOptions) (ring : ℕ → Float) (points : ℕ) where
   -- ---- its stripes
   abbrev pub stripesFit : Places → List ℕ → List ℕ → Bool
   stripesFit at stripes list =

@@ -6,6 +6,7 @@ use lib.ListN.{length}
 use native.Mathlib.Omega.{arith}
 use borrow.Author.Needs.{needs}
 use borrow.Author.Tests.{not-true, not-false}
+use Rattle.rings.specs.Ring.{wide}
 use Rattle.outline_ring.specs.RingIndex.{lent}
 use Rattle.outline_ring.proofs.Ways.{stripes-cut, stripes-there, stripes-whole}
 use Rattle.outline_ring.proofs.by_stripes.Statement.{statement}
@@ -16,7 +17,7 @@ returns c =
     let t = c .before in
     let m = t .before .before .before in
     let a = m .before .before .before .before .before .before .before .before .args in
-    stripes-cut (lent (a .table .now) (a .spans .now) (a .stripes .now) (a .list .now) []) (a .k) (a .ring .now) (a .n) (a .p) (a .edge)
+    stripes-cut (lent (a .table .now) (a .spans .now) (a .stripes .now) (a .list .now) []) (a .k) (wide (a .ring .now)) (a .n) (a .p) (a .edge)
     (m .before .before .before .number-at .result) (m .before .before .number-at2 .result) (m .before .number-at3 .result) (m .number-at4 .result)
     (t .before .before .stripes-lie .result) (t .before .lies .result) (t .lies2 .result)
     (m .before .before .before .number-at .ensures) (m .before .before .number-at2 .ensures) (m .before .number-at3 .ensures) (m .number-at4 .ensures)
@@ -32,7 +33,7 @@ there c =
     let t = c .before in
     let m = t .before .before .before in
     let a = m .before .before .before .before .before .before .before .before .args in
-    stripes-there (lent (a .table .now) (a .spans .now) (a .stripes .now) (a .list .now) []) (a .k) (a .ring .now) (a .n) (a .p) (a .edge)
+    stripes-there (lent (a .table .now) (a .spans .now) (a .stripes .now) (a .list .now) []) (a .k) (wide (a .ring .now)) (a .n) (a .p) (a .edge)
     (m .before .before .before .number-at .result) (m .before .before .number-at2 .result) (m .before .number-at3 .result) (m .number-at4 .result)
     (t .before .before .stripes-lie .result) (t .before .lies .result) (t .lies2 .result)
     (m .before .before .before .number-at .ensures) (m .before .before .number-at2 .ensures) (m .before .number-at3 .ensures) (m .number-at4 .ensures)
@@ -45,7 +46,7 @@ returns-2 c =
     let m = t .before .before .before in
     let a = m .before .before .before .before .before .before .before .before .args in
     c .test-in .ensures
-    ∙ stripes-whole (lent (a .table .now) (a .spans .now) (a .stripes .now) (a .list .now) []) (a .k) (a .ring .now) (a .n) (a .p) (a .edge)
+    ∙ stripes-whole (lent (a .table .now) (a .spans .now) (a .stripes .now) (a .list .now) []) (a .k) (wide (a .ring .now)) (a .n) (a .p) (a .edge)
     (m .before .before .before .number-at .result) (m .before .before .number-at2 .result) (m .before .number-at3 .result) (m .number-at4 .result)
     (t .before .before .stripes-lie .result) (t .before .lies .result) (t .lies2 .result)
     (m .before .before .before .number-at .ensures) (m .before .before .number-at2 .ensures) (m .before .number-at3 .ensures) (m .number-at4 .ensures)

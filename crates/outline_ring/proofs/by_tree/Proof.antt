@@ -6,6 +6,7 @@ use lib.ListN.{length}
 use native.Mathlib.Omega.{arith}
 use borrow.Author.Needs.{needs}
 use borrow.Author.Tests.{leb-true, not-true, not-false}
+use Rattle.rings.specs.Ring.{wide}
 use Rattle.outline_ring.specs.RingIndex.{lent}
 use Rattle.outline_ring.proofs.Ways.{tree-cut, tree-whole}
 use Rattle.outline_ring.proofs.by_tree.Statement.{statement}
@@ -15,7 +16,7 @@ returns : tie.Need-returns
 returns c =
     let m = c .before .before in
     let a = m .before .before .before .before .args in
-    tree-cut (lent (a .table .now) [] [] [] (a .bytes .now)) (a .k) (a .tree .bounds) (a .ring .now) (a .tree .segments) (a .p) (a .edge)
+    tree-cut (lent (a .table .now) [] [] [] (a .bytes .now)) (a .k) (a .tree .bounds) (wide (a .ring .now)) (a .tree .segments) (a .p) (a .edge)
     (m .before .number-at .result) (m .number-at2 .result) (c .before .lies .result) (m .before .number-at .ensures) (m .number-at2 .ensures)
     (c .before .lies .ensures) (not-true (c .before .lies .result) (c .if1 .taken))
 
@@ -34,7 +35,7 @@ returns-2 c =
     let m = o .before .before in
     let a = m .before .before .before .before .args in
     c .test-in .ensures
-    ∙ tree-whole (lent (a .table .now) [] [] [] (a .bytes .now)) (a .k) (a .tree .bounds) (a .ring .now) (a .tree .segments) (a .p) (a .edge)
+    ∙ tree-whole (lent (a .table .now) [] [] [] (a .bytes .now)) (a .k) (a .tree .bounds) (wide (a .ring .now)) (a .tree .segments) (a .p) (a .edge)
     (m .before .number-at .result) (m .number-at2 .result) (o .before .lies .result) (m .before .number-at .ensures) (m .number-at2 .ensures)
     (o .before .lies .ensures) (not-false (o .before .lies .result) (o .if1 .left))
 

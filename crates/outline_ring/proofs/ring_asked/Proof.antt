@@ -1,6 +1,7 @@
 -- `outline_ring::ring_asked` meets its contract. Assumes nothing.
 use mathlib.Core.Path.{_≡_, sym, ap, _∙_}
 use borrow.Author.Needs.{needs}
+use Rattle.rings.specs.Ring.{wide}
 use Rattle.outline_ring.specs.RingIndex.{lent}
 use Rattle.outline_ring.proofs.Ways.{by-stripes, by-tree, by-scan, striped, unstriped, treed, untreed}
 use Rattle.outline_ring.proofs.ring_asked.Statement.{statement}
@@ -13,7 +14,7 @@ returns c =
     let x = lent (a .table .now) (a .spans .now) (a .stripes .now) (a .list .now) (a .bytes .now) in
     let e = m .number-at .ensures in
     let q = m .number-at .result in
-    c .by-stripes .ensures ∙ sym (by-stripes x (a .k) (a .tree .bounds) (a .ring .now) (a .tree .segments) (a .p) (a .edge) (striped (a .table .now) (a .k) q e (c .before .if1 .taken)))
+    c .by-stripes .ensures ∙ sym (by-stripes x (a .k) (a .tree .bounds) (wide (a .ring .now)) (a .tree .segments) (a .p) (a .edge) (striped (a .table .now) (a .k) q e (c .before .if1 .taken)))
 
 returns-2 : tie.Need-returns-2
 returns-2 c =
@@ -24,7 +25,7 @@ returns-2 c =
     let q = m .number-at .result in
     c .by-tree .ensures
     ∙ sym
-    (by-tree x (a .k) (a .tree .bounds) (a .ring .now) (a .tree .segments) (a .p) (a .edge) (unstriped (a .table .now) (a .k) q e (c .before .before .if1 .left))
+    (by-tree x (a .k) (a .tree .bounds) (wide (a .ring .now)) (a .tree .segments) (a .p) (a .edge) (unstriped (a .table .now) (a .k) q e (c .before .before .if1 .left))
     (treed (a .table .now) (a .k) q e (c .before .if2 .taken)))
 
 returns-3 : tie.Need-returns-3
@@ -36,7 +37,7 @@ returns-3 c =
     let q = m .number-at .result in
     c .scan-in .ensures
     ∙ sym
-    (by-scan x (a .k) (a .tree .bounds) (a .ring .now) (a .tree .segments) (a .p) (a .edge) (unstriped (a .table .now) (a .k) q e (c .before .before .if1 .left))
+    (by-scan x (a .k) (a .tree .bounds) (wide (a .ring .now)) (a .tree .segments) (a .p) (a .edge) (unstriped (a .table .now) (a .k) q e (c .before .before .if1 .left))
     (untreed (a .table .now) (a .k) q e (c .before .if2 .left)))
 
 pub ring-asked-spec : {M : Type 1} → statement M

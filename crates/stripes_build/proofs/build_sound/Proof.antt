@@ -2,9 +2,10 @@
 use mathlib.Core.Path.{_≡_, refl, sym, ap, ap₂, _∙_}
 use mathlib.Core.List.{List}
 use Prim.Native.Nat.{ℕ, _≤_, _<_}
-use lib.ListN.{length, replicate}
+use lib.ListN.{replicate}
 use native.Mathlib.Omega.{arith}
 use borrow.Author.Needs.{needs}
+use Rattle.rings.specs.Ring.{wide}
 use Rattle.stripes_build.specs.declared.StripesBuilt.the-variants.{Unstriped}
 use Rattle.stripes_build.proofs.Building.{from-under, from-reached, indexed-room}
 use Rattle.stripes_build.proofs.build_sound.Statement.{statement}
@@ -15,7 +16,7 @@ returns c =
     let l = c .before .before .before in
     let s = l .before .before .before .before in
     let a = s .before .before .before .before .args in
-    from-under (a .ring .now) (a .n) (a .threshold) (a .stripes .now) (a .list .now) (c .if1 .taken)
+    from-under (wide (a .ring .now)) (a .n) (a .threshold) (a .stripes .now) (a .list .now) (c .if1 .taken)
     ∙ ap₂ (λ (x y : List ℕ). (Unstriped, x, y)) (sym (s .zero-fill-u32 .ensures)) (sym (l .zero-fill-u322 .ensures))
 
 build-checked-requires : tie.Need-build-checked-requires
@@ -36,8 +37,8 @@ returns-2 c =
     let l = k .before .before .before .before .before .before in
     let s = l .before .before .before .before in
     let a = s .before .before .before .before .args in
-    from-reached (a .ring .now) (a .n) (a .threshold) (a .stripes .now) (a .list .now) (k .before .before .before .if1 .left)
-    ∙ indexed-room (a .ring .now) (a .n) (a .stripes .now) _ (a .list .now) _ (sym (s .zero-fill-u32 .kept .0)) (sym (l .zero-fill-u322 .kept .0))
+    from-reached (wide (a .ring .now)) (a .n) (a .threshold) (a .stripes .now) (a .list .now) (k .before .before .before .if1 .left)
+    ∙ indexed-room (wide (a .ring .now)) (a .n) (a .stripes .now) _ (a .list .now) _ (sym (s .zero-fill-u32 .kept .0)) (sym (l .zero-fill-u322 .kept .0))
     ∙ k .build-checked .ensures
 
 pub build-sound-spec : {M : Type 1} → statement M

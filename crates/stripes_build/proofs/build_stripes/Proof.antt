@@ -4,6 +4,7 @@ use Prim.Native.Nat.{ℕ, _≤_, _<_}
 use native.Mathlib.Omega.{arith}
 use borrow.Author.Needs.{needs}
 use Rattle.rings.proofs.Checks.{sound-ring}
+use Rattle.rings.specs.Ring.{wide}
 use Rattle.stripes_build.proofs.Building.{built-faulty, built-sound}
 use Rattle.stripes_build.proofs.build_stripes.Statement.{statement}
 use Rattle.stripes_build.proofs.build_stripes.Tie as tie
@@ -27,7 +28,7 @@ returns : tie.Need-returns
 returns c =
     let k = c .before .before .before in
     let a = k .before .before .before .args in
-    built-faulty (a .coords .now) (a .points) (a .threshold) (a .stripes .now) (a .list .now) _ (sym (k .check-ring .ensures) ∙ c .before .checked .given .1)
+    built-faulty _ (wide (a .coords .now)) (a .points) (a .threshold) (a .stripes .now) (a .list .now) _ (sym (k .check-ring .ensures) ∙ c .before .checked .given .1)
 
 returns-2 : tie.Need-returns-2
 returns-2 c =
@@ -35,7 +36,7 @@ returns-2 c =
     let e = f .before .before .before in
     let k = e .before .before in
     let a = k .before .before .before .args in
-    built-sound (a .coords .now) (a .points) (a .threshold) (a .stripes .now) (a .list .now) (sym (k .check-ring .ensures) ∙ e .enum-told .given .1)
+    built-sound _ (wide (a .coords .now)) (a .points) (a .threshold) (a .stripes .now) (a .list .now) (sym (k .check-ring .ensures) ∙ e .enum-told .given .1)
     ∙ f .build-sound .ensures
 
 pub build-stripes-spec : {M : Type 1} → statement M

@@ -7,6 +7,7 @@ use native.Mathlib.Omega.{arith}
 use borrow.Author.Needs.{needs}
 use Rattle.answers.specs.declared.Refusal.the-variants.{NoRoom}
 use Rattle.room.specs.Room.{pad}
+use Rattle.rings.specs.Ring.{wide}
 use Rattle.stripes_build.specs.declared.StripesStats.{StripesStats}
 use Rattle.stripes_build.specs.declared.StripesBuilt.{StripesBuilt}
 use Rattle.stripes_build.specs.declared.StripesBuilt.the-variants.{Striped, StripesRefused}
@@ -28,7 +29,7 @@ returns c =
     let k = z .before .before .before .before .before in
     let b = k .before .before .before .before in
     let a = b .args in
-    filled-short (a .ring .now) (a .n) (a .least) (a .height) (a .m) (a .stripes .now) (a .list .now) (omega (arith, k .prepare .ensures .0 .0, z .before .before .if1 .taken))
+    filled-short (wide (a .ring .now)) (a .n) (a .least) (a .height) (a .m) (a .stripes .now) (a .list .now) (omega (arith, k .prepare .ensures .0 .0, z .before .before .if1 .taken))
     ∙ ap₂ (λ (s l : List ℕ). (StripesRefused NoRoom, s, l)) (sym (z .zero-fill-u32 .ensures ∙ ap (λ (j : ℕ). replicate j 0) (k .prepare .kept .1 .1 .1 .1 .1 .0))) (sym (b .pre .1 .1))
 
 enter-all-requires : tie.Need-enter-all-requires
@@ -36,7 +37,7 @@ enter-all-requires c κs =
     let k = c .before .before .before .before .before in
     let b = k .before .before .before .before in
     let a = b .args in
-    let cross = crosses (a .ring .now) (a .least) (a .height) (a .m) in
+    let cross = crosses (wide (a .ring .now)) (a .least) (a .height) (a .m) in
     let e = k .prepare .kept .1 .1 .1 .1 .1 .0 in (
       (b .pre .0 .0, omega arith, omega arith, omega arith),
       (
@@ -51,11 +52,11 @@ returns-2 c =
     let k = x .before .before .before .before .before .before in
     let b = k .before .before .before .before in
     let a = b .args in
-    let cross = crosses (a .ring .now) (a .least) (a .height) (a .m) in
+    let cross = crosses (wide (a .ring .now)) (a .least) (a .height) (a .m) in
     let e = k .prepare .kept .1 .1 .1 .1 .1 .0 in
     let made : ℕ → ℕ → List ℕ → List ℕ → Outcome =
     λ e f s l. (Striped (a .least) (a .height) (record { segments = a .n; stripes = a .m; entries = e; fullest = f }), s, l) in
-    filled-fits (a .ring .now) (a .n) (a .least) (a .height) (a .m) (a .stripes .now) (a .list .now) (omega (arith, k .prepare .ensures .0 .0, x .before .before .before .if1 .left))
+    filled-fits (wide (a .ring .now)) (a .n) (a .least) (a .height) (a .m) (a .stripes .now) (a .list .now) (omega (arith, k .prepare .ensures .0 .0, x .before .before .before .if1 .left))
     ∙ ap₂ (λ (e f : ℕ). made e f (pad (length (a .stripes .now)) (tableOf cross (a .n) (a .m))) (pad (length (a .list .now)) (listOf cross (a .n) (a .m))))
     (sym (k .prepare .ensures .0 .0)) (sym (k .prepare .ensures .0 .1))
     ∙ ap₂ (λ (s l : List ℕ). made (k .prepare .result .entries) (k .prepare .result .fullest) s l)

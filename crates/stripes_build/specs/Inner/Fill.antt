@@ -3,7 +3,6 @@ use mathlib.Core.Bool.{cond}
 use mathlib.Core.List.{List}
 use Prim.Native.Nat.{ℕ}
 use lib.ListN.{length}
-use lib.IntN.{ℤ}
 use lib.Dec.{leb}
 use lib.Ieee.{Float}
 use Rattle.answers.specs.declared.Refusal.the-variants.{NoRoom}
@@ -12,7 +11,7 @@ use Rattle.stripes_build.specs.declared.StripesBuilt.the-variants.{Strip
 use Rattle.stripes_index.specs.Index.{crosses, tableOf, listOf, entriesOf, fullestOf}
 use Rattle.stripes_build.specs.Build.{Outcome, zeroed}
 
-unfoldable pub filledOf : List ℤ → ℕ → Float → Float → ℕ → List ℕ → List ℕ → Outcome
+unfoldable pub filledOf : (ℕ → Float) → ℕ → Float → Float → ℕ → List ℕ → List ℕ → Outcome
 filledOf ring n least height m stripes list =
     cond (leb (entriesOf (crosses ring least height m) n m) (length list)) (
       Striped least height

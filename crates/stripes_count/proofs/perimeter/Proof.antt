@@ -4,12 +4,13 @@ use Prim.Native.Nat.{ℕ, _≤_, _-_}
 use native.Mathlib.Omega.{arith}
 use native.Mathlib.Numerals.{add-one}
 use borrow.Author.Needs.{needs}
+use Rattle.rings.specs.Ring.{wide}
 use Rattle.stripes_count.specs.Count.{sumTo, lengthOf, endsAt}
 use Rattle.stripes_count.proofs.perimeter.Statement.{statement}
 use Rattle.stripes_count.proofs.perimeter.Tie as tie
 
 abbrev Inv-loop : tie.InvT-loop
-Inv-loop ring segments sum₀ i₀ sum i = (i ≤ segments) × (sum ≡ sumTo (λ (k : ℕ). lengthOf (endsAt ring k)) i)
+Inv-loop ring segments sum₀ i₀ sum i = (i ≤ segments) × (sum ≡ sumTo (λ (k : ℕ). lengthOf (endsAt (wide ring) k)) i)
 
 abbrev μ-loop : tie.MeasureT-loop
 μ-loop ring segments sum₀ i₀ sum i = segments - i

@@ -44,7 +44,7 @@ returns c =
     let a = b .args in
     let t = test (a .ring .now) (a .y) in
     let r = listing-broken (a .n) t (a .list .now) (a .start) (a .past) (a .out .now) (l .out) (l .k) (l .at) (w .wide .result) (l .inv .0)
-    (w .before .before .loop-test .taken) (b .pre .0 .2) (w .wide .ensures .0) (z .before .before .if1 .taken) in
+    (w .before .before .loop-test .taken) (b .pre .0 .2) (w .wide .ensures) (z .before .before .if1 .taken) in
     poured-hurt (foundIn (a .n) t (slice (a .start) (a .past) (a .list .now))) (endIn (a .n) (a .start) (slice (a .start) (a .past) (a .list .now))) (a .out .now) (l .at)
     (omega (arith, r .0)) (r .1)
     ∙ ap (λ (o : List ℕ). (StripesUnlisted (Damaged (l .at)), o)) (sym (z .zero-fill-u32 .ensures ∙ ap (λ (j : ℕ). replicate j 0) (l .inv .1)))
@@ -59,7 +59,7 @@ returns-2 c =
     let a = b .args in
     let t = test (a .ring .now) (a .y) in
     let r = listing-full (a .n) t (a .list .now) (a .start) (a .past) (a .out .now) (l .out) (l .k) (l .at) (w .wide .result) (l .inv .0)
-    (w .before .before .loop-test .taken) (b .pre .0 .2) (w .wide .ensures .0) (g .before .if1 .left) (sym (g .holds-height .ensures) ∙ z .before .before .before .if2 .taken)
+    (w .before .before .loop-test .taken) (b .pre .0 .2) (w .wide .ensures) (g .before .if1 .left) (sym (g .holds-height .ensures) ∙ z .before .before .before .if2 .taken)
     (z .before .before .if3 .taken) in
     poured-short (foundIn (a .n) t (slice (a .start) (a .past) (a .list .now))) (endIn (a .n) (a .start) (slice (a .start) (a .past) (a .list .now))) (a .out .now)
     (omega (arith, r, l .inv .1))
@@ -74,8 +74,8 @@ loop-again c =
     let a = b .args in
     let t = test (a .ring .now) (a .y) in
     let r = listing-kept (a .n) t (a .list .now) (a .start) (a .past) (a .out .now) (l .out) (l .k) (l .at) (w .wide .result) (l .inv .0)
-    (w .before .before .loop-test .taken) (b .pre .0 .2) (w .wide .ensures .0) (g .before .if1 .left) (sym (g .holds-height .ensures) ∙ c .before .before .if2 .taken) in
-    (rw (w .wide .ensures .0) at r, simp length-set (l .inv .1), omega arith, simp length-set (omega arith))
+    (w .before .before .loop-test .taken) (b .pre .0 .2) (w .wide .ensures) (g .before .if1 .left) (sym (g .holds-height .ensures) ∙ c .before .before .if2 .taken) in
+    (rw (w .wide .ensures) at r, simp length-set (l .inv .1), omega arith, simp length-set (omega arith))
 
 loop-again-2 : tie.Need-loop-again-2 Inv-loop μ-loop
 loop-again-2 c =
@@ -86,7 +86,7 @@ loop-again-2 c =
     let a = b .args in
     let t = test (a .ring .now) (a .y) in (
       listing-passed (a .n) t (a .list .now) (a .start) (a .past) (a .out .now) (l .out) (l .k) (l .at) (w .wide .result) (l .inv .0)
-          (w .before .before .loop-test .taken) (b .pre .0 .2) (w .wide .ensures .0) (g .before .if1 .left) (sym (g .holds-height .ensures) ∙ c .if2 .left),
+          (w .before .before .loop-test .taken) (b .pre .0 .2) (w .wide .ensures) (g .before .if1 .left) (sym (g .holds-height .ensures) ∙ c .if2 .left),
       l .inv .1,
       omega arith,
       l .inv .3,

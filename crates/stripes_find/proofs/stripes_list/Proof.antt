@@ -4,6 +4,7 @@ use Prim.Native.Nat.{ℕ, _≤_, _<_}
 use native.Mathlib.Omega.{arith}
 use borrow.Author.Needs.{needs}
 use Rattle.rings.proofs.Checks.{sound-ring}
+use Rattle.rings.specs.Ring.{wide}
 use Rattle.stripes_find.proofs.Pouring.{listed-faulty, listed-height, listed-sound}
 use Rattle.stripes_find.proofs.stripes_list.Statement.{statement}
 use Rattle.stripes_find.proofs.stripes_list.Tie as tie
@@ -28,7 +29,7 @@ returns : tie.Need-returns
 returns c =
     let k = c .before .before .before in
     let a = k .before .before .before .before .args in
-    listed-faulty (a .coords .now) (a .points) (a .least) (a .height) (a .stripes .now) (a .list .now) (a .y) (a .out .now) _
+    listed-faulty _ (wide (a .coords .now)) (a .points) (a .least) (a .height) (a .stripes .now) (a .list .now) (a .y) (a .out .now) _
     (sym (k .check-ring .ensures) ∙ c .before .checked .given .1)
 
 returns-2 : tie.Need-returns-2
@@ -37,7 +38,7 @@ returns-2 c =
     let f = l .before .before .before in
     let k = f .before .before .before in
     let a = k .before .before .before .before .args in
-    listed-sound (a .coords .now) (a .points) (a .least) (a .height) (a .stripes .now) (a .list .now) (a .y) (a .out .now)
+    listed-sound _ (wide (a .coords .now)) (a .points) (a .least) (a .height) (a .stripes .now) (a .list .now) (a .y) (a .out .now)
     (sym (k .check-ring .ensures) ∙ f .before .enum-told .given .1) (sym (f .is-finite .ensures) ∙ l .before .before .if1 .taken)
     ∙ l .list-sound .ensures
 
@@ -46,7 +47,7 @@ returns-3 c =
     let f = c .before in
     let k = f .before .before .before in
     let a = k .before .before .before .before .args in
-    listed-height (a .coords .now) (a .points) (a .least) (a .height) (a .stripes .now) (a .list .now) (a .y) (a .out .now)
+    listed-height _ (wide (a .coords .now)) (a .points) (a .least) (a .height) (a .stripes .now) (a .list .now) (a .y) (a .out .now)
     (sym (k .check-ring .ensures) ∙ f .before .enum-told .given .1) (sym (f .is-finite .ensures) ∙ c .if1 .left)
 
 pub stripes-list-spec : {M : Type 1} → statement M

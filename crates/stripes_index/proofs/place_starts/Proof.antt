@@ -67,7 +67,7 @@ returns c =
     let s : l .start ≡ sumTo (secondAt xs) (a .m) = rw (← last) (l .inv .3) in
     let f : l .fullest ≡ mostTo (secondAt xs) (a .m) = rw (← last) (l .inv .4) in
     let t : l .stripes ≡ pad (length xs) (startsTo (secondAt xs) (a .m) (a .m)) = rw last at (l .inv .0) in
-    ((c .before .wide .ensures .0 ∙ s, c .wide2 .ensures .0 ∙ f), t ∙ ap (pad (length xs)) (starts-all (secondAt xs) (length xs) (a .m)))
+    ((c .before .wide .ensures ∙ s, c .wide2 .ensures ∙ f), t ∙ ap (pad (length xs)) (starts-all (secondAt xs) (length xs) (a .m)))
 
 pub place-starts-spec : {M : Type 1} → statement M
 place-starts-spec =

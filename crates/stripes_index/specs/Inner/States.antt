@@ -3,14 +3,13 @@ use mathlib.Core.Bool.{Bool}
 use mathlib.Core.List.{List, [], _∷_}
 use Prim.Native.Nat.{ℕ, zero, suc, _+_, _-_, _*_, _/_, max}
 use lib.ListN.{length, getD}
-use lib.IntN.{ℤ}
 use Rattle.room.specs.Room.{pad}
 use Rattle.stripes_index.specs.Joined.{joined}
 use Rattle.stripes_index.specs.Index.{partOf, listOf}
 
--- how many segments the numbers of a ring make, two a point
-abbrev pub held : List ℤ → ℕ
-held ring = length ring / 2 - 1
+-- how many segments so many numbers make, two a point
+abbrev pub held : ℕ → ℕ
+held long = long / 2 - 1
 
 -- two numbers a stripe
 abbrev pub pairs : (ℕ → ℕ) → (ℕ → ℕ) → ℕ → List ℕ

@@ -5,6 +5,7 @@ use Prim.Native.Nat.{ℕ, _≤_, _<_}
 use native.Mathlib.Omega.{arith}
 use borrow.Author.Needs.{needs}
 use Rattle.rings.proofs.Checks.{sound-ring}
+use Rattle.rings.specs.Ring.{wide}
 use Rattle.stripes_test.proofs.Verdict.{tested-faulty, tested-unfit, tested-sound}
 use Rattle.stripes_test.proofs.stripes_test.Statement.{statement}
 use Rattle.stripes_test.proofs.stripes_test.Tie as tie
@@ -30,7 +31,7 @@ returns c =
     let k = c .before .before .before in
     let a = k .before .before .before .args in
     sym
-    (tested-faulty (a .coords .now) (a .points) (a .least) (a .height) (a .stripes .now) (a .list .now) (a .p) (a .edge) _
+    (tested-faulty _ (wide (a .coords .now)) (a .points) (a .least) (a .height) (a .stripes .now) (a .list .now) (a .p) (a .edge) _
     (sym (k .check-ring .ensures) ∙ c .before .checked .given .1))
 
 returns-2 : tie.Need-returns-2
@@ -41,7 +42,7 @@ returns-2 c =
     let a = k .before .before .before .args in
     c .test-in .ensures
     ∙ sym
-    (tested-sound (a .coords .now) (a .points) (a .least) (a .height) (a .stripes .now) (a .list .now) (a .p) (a .edge)
+    (tested-sound _ (wide (a .coords .now)) (a .points) (a .least) (a .height) (a .stripes .now) (a .list .now) (a .p) (a .edge)
     (sym (k .check-ring .ensures) ∙ e .enum-told .given .1) (ap₂ _&&_ (sym (f .before .is-finite .ensures)) (sym (f .is-finite2 .ensures)) ∙ c .before .if1 .taken))
 
 returns-3 : tie.Need-returns-3
@@ -51,7 +52,7 @@ returns-3 c =
     let k = e .before .before in
     let a = k .before .before .before .args in
     sym
-    (tested-unfit (a .coords .now) (a .points) (a .least) (a .height) (a .stripes .now) (a .list .now) (a .p) (a .edge)
+    (tested-unfit _ (wide (a .coords .now)) (a .points) (a .least) (a .height) (a .stripes .now) (a .list .now) (a .p) (a .edge)
     (sym (k .check-ring .ensures) ∙ e .enum-told .given .1) (ap₂ _&&_ (sym (f .before .is-finite .ensures)) (sym (f .is-finite2 .ensures)) ∙ c .if1 .left))
 
 pub stripes-test-spec : {M : Type 1} → statement M

@@ -6,6 +6,7 @@ use native.Mathlib.Omega.{arith}
 use borrow.Author.Needs.{needs}
 use Rattle.room.specs.Numbers.{upTo}
 use Rattle.tree.specs.declared.QuadTree.{QuadTree}
+use lib.ListN.{length}
 use Rattle.rings.specs.Ring.{wide}
 use Rattle.tree_build.proofs.Building.{readable-run, grown-full, grown-ready, grown-put}
 use Rattle.tree_build.proofs.grow_and_pack.Statement.{statement}
