@@ -4,12 +4,13 @@ use mathlib.Core.List.{List}
 use Prim.Native.Nat.{ℕ, _+_, _-_, _*_, _≤_, _<_}
 use native.Mathlib.Omega.{arith}
 use borrow.Author.Needs.{needs}
-use lib.ListN.{length, getD, take, drop}
+use lib.ListN.{take, drop}
 use lib.IntN.{ℤ}
 use Rattle.boxes.specs.declared.Rect.{Rect}
 use Rattle.outline_check.specs.Outline.{sizeAt, startOf}
 use Rattle.outline_check.proofs.Starts.{part-within, part-is, ring-length}
 use Rattle.outline_ring.specs.RingIndex.{lent, ringAsked}
+use Rattle.rings.specs.Ring.{wide}
 use Rattle.outline_ask.proofs.ring_at.Statement.{statement}
 use Rattle.outline_ask.proofs.ring_at.Tie as tie
 
@@ -48,7 +49,7 @@ returns c =
     c .ring-asked .ensures
     ∙ ap₂
     (λ (box : Rect) (ring : List ℤ).
-    ringAsked (lent (a .table .now) (a .spans .now) (a .stripes .now) (a .list .now) (a .bytes .now)) (a .k) box ring (sizeAt (a .sizes .now) (a .k) - 1) (a .p) (a .edge))
+    ringAsked (lent (a .table .now) (a .spans .now) (a .stripes .now) (a .list .now) (a .bytes .now)) (a .k) box (wide ring) (sizeAt (a .sizes .now) (a .k) - 1) (a .p) (a .edge))
     (c .before .before .rect-at .ensures)
     (part-is (a .sizes .now) (a .coords .now) (a .k) (a .at) (a .at + 2 * sizeAt (a .sizes .now) (a .k)) (s .pre .2) refl)
 
