@@ -110,6 +110,19 @@ extern "C" {
 /* Numbers a ring in boxes. */
 #define BROTHSTITCH_BOX 4
 
+/* Numbers a ring in table, and which of them is which. */
+#define BROTHSTITCH_ROW 10
+#define BROTHSTITCH_ROW_SEGMENTS 0
+#define BROTHSTITCH_ROW_UNDER 1 /* 1 if an index was asked for and the ring is below the threshold */
+#define BROTHSTITCH_ROW_KINDS 2 /* bit 0 stripes, bit 1 a tree */
+#define BROTHSTITCH_ROW_STRIPES_START 3 /* where its stripes start in stripes */
+#define BROTHSTITCH_ROW_STRIPES 4 /* how many stripes it has, two numbers each */
+#define BROTHSTITCH_ROW_LIST_START 5 /* where its list starts in list */
+#define BROTHSTITCH_ROW_ENTRIES 6 /* how long its list is */
+#define BROTHSTITCH_ROW_FULLEST 7 /* how many entries are in its fullest stripe */
+#define BROTHSTITCH_ROW_BYTES_START 8 /* where its bytes start in bytes */
+#define BROTHSTITCH_ROW_BYTES 9 /* how many they are */
+
 /* ---- Lists: the segments of a ring whose closed height range holds y. ----------------------------- */
 
 /* By looking at every segment, in rising order. The segments' numbers go to out; *value: how many. */
@@ -173,11 +186,8 @@ uint32_t brothstitch_make(const uint32_t *sizes, size_t sizes_len, const int32_t
                           double scale, uint32_t mode, int32_t *boxes, size_t boxes_len, uint64_t *value);
 
 /* Builds the indexes of all rings; options: bit 0 stripes, bit 1 trees. 0 done; *value: how many rings.
- * table gets ten numbers a ring: segments; 1 if an index is asked for and the ring is below the
- * threshold; kinds (bit 0 stripes, bit 1 tree);
- * where its stripes start in stripes, and how many stripes it has; where its list starts in list, how long
- * it is, and how many are in the fullest stripe; where its bytes start in bytes, and how many they are. A
- * part that the ring has not got starts behind those of the rings before it, and has nothing in it.
+ * table gets a row of ten numbers a ring, BROTHSTITCH_ROW_SEGMENTS and so on. A part that the ring has not got starts
+ * behind those of the rings before it, and has nothing in it.
  * spans gets two numbers a ring, least and height, zeros for a ring without stripes. */
 uint32_t brothstitch_build(const uint32_t *sizes, size_t sizes_len, const int32_t *coords, size_t coords_len,
                            uint32_t options, size_t threshold, uint64_t *table, size_t table_len,

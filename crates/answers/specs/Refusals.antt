@@ -1,5 +1,6 @@
 -- 01, "What a call says when it says no": the number and the place of each refusal.
 use Prim.Native.Nat.{ℕ}
+use mathlib.Core.Bool.{Bool, true, false}
 use Rattle.answers.specs.declared.Refusal.{Refusal}
 use Rattle.answers.specs.declared.Refusal.the-variants.{TooFew, TooMany, SizesDiffer, NotClosed, BadScale, BeyondLimit, BadHeight, NoRoom, Damaged}
 
@@ -27,3 +28,15 @@ placeOf (BeyondLimit ring) = ring
 placeOf BadHeight = 0
 placeOf NoRoom = 0
 placeOf (Damaged at) = at
+
+-- "Refusals 1 to 7 touch no lent room .. 8 and 9, fill all output and work room with zeros"
+abbrev pub zeroesRooms : Refusal → Bool
+zeroesRooms (TooFew ring) = false
+zeroesRooms (TooMany ring) = false
+zeroesRooms SizesDiffer = false
+zeroesRooms (NotClosed ring) = false
+zeroesRooms BadScale = false
+zeroesRooms (BeyondLimit ring) = false
+zeroesRooms BadHeight = false
+zeroesRooms NoRoom = true
+zeroesRooms (Damaged at) = true

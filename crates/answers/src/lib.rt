@@ -2,7 +2,7 @@
 // is an equality with a definition of specs/, so that each call has one answer.
 ghost use mathlib.Core.Path.{_≡_};
 ghost use Rattle.answers.specs.Answers.{said};
-ghost use Rattle.answers.specs.Refusals.{numberOf, placeOf};
+ghost use Rattle.answers.specs.Refusals.{numberOf, placeOf, zeroesRooms};
 
 // A refusal whose place the table gives as 0 always carries none.
 pub enum Refusal {
@@ -50,6 +50,23 @@ impl Refusal {
             Refusal::BadHeight => 0,
             Refusal::NoRoom => 0,
             Refusal::Damaged(at) => at,
+        }
+    }
+
+    // Whether it fills all lent room with zeros; the others leave lent room as it was.
+    pub fn zeroes_rooms(self) -> bool
+        ensures { λ r. ⌜ r ≡ zeroesRooms self ⌝ }
+    {
+        match self {
+            Refusal::TooFew(_) => false,
+            Refusal::TooMany(_) => false,
+            Refusal::SizesDiffer => false,
+            Refusal::NotClosed(_) => false,
+            Refusal::BadScale => false,
+            Refusal::BeyondLimit(_) => false,
+            Refusal::BadHeight => false,
+            Refusal::NoRoom => true,
+            Refusal::Damaged(_) => true,
         }
     }
 }

@@ -10,7 +10,7 @@ use lib.Ieee.{Float}
 use borrow.Author.Tests.{leb-true}
 use Rattle.answers.specs.declared.Refusal.{Refusal}
 use Rattle.answers.specs.declared.Refusal.the-variants.{NoRoom}
-use Rattle.answers.specs.Refusals.{numberOf}
+use Rattle.answers.specs.Refusals.{zeroesRooms}
 use Rattle.room.specs.Room.{pad}
 use Rattle.stripes_build.specs.declared.StripesStats.{StripesStats}
 use Rattle.capi.specs.Told.{Told, refusalTold}
@@ -60,12 +60,12 @@ module _ (least height : Float) (told : StripesStats) (stripes list : List ℕ) 
   striped-short e h p q r u = rw (e, p, q, r, u, sym h)
 
 module _ (why : Refusal) (span : List Float) (stats : List ℕ) where
-  pub refused-zero : {said : Told} {t : List ℕ} {f : List Float} → leb 8 (numberOf why) ≡ true
+  pub refused-zero : {said : Told} {t : List ℕ} {f : List Float} → zeroesRooms why ≡ true
       → refusalTold why ≡ said → f ≡ zeroSpan (length span) → t ≡ replicate (length stats) 0
       → refusedTold why span stats ≡ (said, f, t)
   unfolding refusedTold
   refused-zero e h p q = rw (e, p, q, sym h)
 
-  pub refused-kept : {said : Told} → leb 8 (numberOf why) ≡ false → refusalTold why ≡ said → refusedTold why span stats ≡ (said, span, stats)
+  pub refused-kept : {said : Told} → zeroesRooms why ≡ false → refusalTold why ≡ said → refusedTold why span stats ≡ (said, span, stats)
   unfolding refusedTold
   refused-kept e h = rw (e, sym h)

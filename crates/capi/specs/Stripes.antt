@@ -8,7 +8,7 @@ use lib.ListN.{length, replicate}
 use lib.Ieee.{Float, binary64, ofBits}
 use Rattle.answers.specs.declared.Refusal.{Refusal}
 use Rattle.answers.specs.declared.Refusal.the-variants.{NoRoom}
-use Rattle.answers.specs.Refusals.{numberOf}
+use Rattle.answers.specs.Refusals.{zeroesRooms}
 use Rattle.room.specs.Room.{pad}
 use Rattle.stripes_build.specs.declared.StripesStats.{StripesStats}
 use Rattle.stripes_build.specs.declared.StripesBuilt.{StripesBuilt}
@@ -42,10 +42,10 @@ stripedTold least height told stripes list span stats =
 abbrev pub unstripedTold : List Float → List ℕ → Told × List Float × List ℕ
 unstripedTold span stats = ((0, 0), zeroSpan (length span), replicate (length stats) 0)
 
--- "Refusals 1 to 7 touch no lent room .. 8 and 9, fill all output and work room with zeros"
+-- a refusal that fills all lent room with zeros fills these two as well
 unfoldable pub refusedTold : Refusal → List Float → List ℕ → Told × List Float × List ℕ
 refusedTold why span stats =
-    cond (leb 8 (numberOf why)) (refusalTold why, zeroSpan (length span), replicate (length stats) 0) (refusalTold why, span, stats)
+    cond (zeroesRooms why) (refusalTold why, zeroSpan (length span), replicate (length stats) 0) (refusalTold why, span, stats)
 
 -- an outcome of the two rooms more, with the stripes and the list as they are
 abbrev pub withLists : List ℕ → List ℕ → Told × List Float × List ℕ → Outcome

@@ -70,7 +70,7 @@ fn tell_unstriped(span: &mut [f64], stats: &mut [u64], value: &mut u64) -> u32
 fn tell_refused(why: Refusal, span: &mut [f64], stats: &mut [u64], value: &mut u64) -> u32
     ensures { λ r. ⌜ refusedTold why (now (span .entry)) (now (stats .entry)) ≡ ((r, now (value .exit)), now (span .exit), now (stats .exit)) ⌝ }
 {
-    if 8 <= why.number() {
+    if why.zeroes_rooms() {
         zero_fill_f64(span);
         zero_fill_u64(stats);
         return tell_refusal(why, value);

@@ -20,7 +20,8 @@ use Rattle.outline_index.specs.Parts.{hasStripes, hasTree, saysUnder, listPart,
 use Rattle.outline_index.proofs.Pools.{turn-like}
 use Rattle.outline_build.specs.declared.RingBuildStats.{RingBuildStats}
 use Rattle.outline_build.specs.Indexes.{stripesTo, listTo, bytesTo, rowAt, rowsTo}
-use Rattle.outline_build.specs.Statistics.{numberAt, toldBy, statsAt, ringStats}
+use Rattle.outline_build.specs.Statistics.{toldBy, statsAt, ringStats}
+use Rattle.outline_table.specs.Row.{number}
 
 -- number i of row k of m rows
 row-get : (f : ℕ → List ℕ) → ((j : ℕ) → length (f j) ≡ 10) → (k i m : ℕ) → k < m → i < 10 → getD (inTurn f m) (10 * k + i) 0 ≡ getD (f k) i 0
@@ -64,7 +65,7 @@ module _ (options : BuildOptions) (sizes : List ℕ) (coords : List ℤ) (room k
   abbrev table : List ℕ
   table = pad room (rowsTo options sizes coords (rings sizes))
 
-  number-is : (i : ℕ) → i < 10 → numberAt table k i ≡ getD (rowAt options sizes coords k) i 0
+  number-is : (i : ℕ) → i < 10 → number table k i ≡ getD (rowAt options sizes coords k) i 0
   unfolding pad
   number-is i l =
       List·getD-append (rowsTo options sizes coords (rings sizes)) _ 0 (10 * k + i) (omega (arith, turn-like (rowAt options sizes coords) 10 (rings sizes) (λ j. refl)))

@@ -1,22 +1,18 @@
 -- Statistics of a ring's build, as its row of the table tells them. The source's `RingBuildStats`.
-use Prim.Native.Nat.{ℕ, _+_, _*_, _/_, _%_}
+use Prim.Native.Nat.{ℕ, _/_, _%_}
 use mathlib.Core.List.{List}
 use mathlib.Core.Bool.{Bool, true, false}
 use lib.Dec.{eqb}
-use lib.ListN.{getD}
 use lib.Ieee.{Float}
 use Rattle.rings.specs.Ring.{segments}
 use Rattle.stripes_build.specs.declared.StripesStats.{StripesStats}
 use Rattle.stripes_build.specs.Build.{statsOf}
+use Rattle.outline_table.specs.Row.{number, segmentsPlace, underPlace, kindsPlace, stripesPlace, entriesPlace, fullestPlace}
 use Rattle.outline_index.specs.declared.BuildOptions.{BuildOptions}
 use Rattle.outline_index.specs.Parts.{hasStripes, hasTree, saysUnder}
 use Rattle.outline_build.specs.declared.YStripes.{YStripes}
 use Rattle.outline_build.specs.declared.YStripes.the-variants.{SomeStripes, NoStripes}
 use Rattle.outline_build.specs.declared.RingBuildStats.{RingBuildStats}
-
--- number i of ring k's row; one that is missing counts as 0
-abbrev pub numberAt : List ℕ → ℕ → ℕ → ℕ
-numberAt table k i = getD table (10 * k + i) 0
 
 -- what is told of a ring's stripes, where it has them
 abbrev pub toldBy : Bool → StripesStats → YStripes
@@ -25,19 +21,19 @@ toldBy false stats = NoStripes
 
 module _ (table : List ℕ) (k : ℕ) where
   abbrev pub toldStripes : Bool
-  toldStripes = eqb (numberAt table k 2 % 2) 1
+  toldStripes = eqb (number table k kindsPlace % 2) 1
 
   -- what row k tells, as it stands
   unfoldable pub statsAt : RingBuildStats
   statsAt =
       record {
-        «segment_count» = numberAt table k 0;
-        «below_threshold» = eqb (numberAt table k 1) 1;
-        «used_compressed_quad» = eqb (numberAt table k 2 / 2 % 2) 1;
+        «segment_count» = number table k segmentsPlace;
+        «below_threshold» = eqb (number table k underPlace) 1;
+        «used_compressed_quad» = eqb (number table k kindsPlace / 2 % 2) 1;
         «used_y_stripes» = toldStripes;
         «y_stripes» =
             toldBy toldStripes
-            (record { segments = numberAt table k 0; stripes = numberAt table k 4; entries = numberAt table k 6; fullest = numberAt table k 7 });
+            (record { segments = number table k segmentsPlace; stripes = number table k stripesPlace; entries = number table k entriesPlace; fullest = number table k fullestPlace });
       }
 
 -- what is true of a ring that was built by these options

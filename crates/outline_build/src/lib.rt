@@ -7,6 +7,7 @@ use outline_index::Places;
 use outline_index::index_ring;
 use outline_index::put_ring;
 use outline_index::zero_fill_f64;
+use outline_table::Row;
 use rings::Checked;
 use room::zero_fill_u8;
 use room::zero_fill_u32;
@@ -19,7 +20,8 @@ ghost use Rattle.rings.specs.declared.Checked.the-variants.{Sound};
 ghost use Rattle.outline_check.specs.Outline.{rings};
 ghost use Rattle.outline_check.specs.Rules.{shapeChecked};
 ghost use Rattle.outline_build.specs.Indexes.{zeroed, indexed, indexesBuilt};
-ghost use Rattle.outline_build.specs.Statistics.{numberAt, toldBy, statsAt};
+ghost use Rattle.outline_build.specs.Statistics.{toldBy, statsAt};
+ghost use Rattle.outline_table.specs.Row.{number};
 ghost use Rattle.outline_build.specs.Inner.Standing.{Zero, AllBuilt};
 
 // What building answers: how many rings there are, or a refusal.
@@ -143,7 +145,7 @@ fn build_zeroed(
     ensures { λ r. ⌜ indexed (now (table .entry)) (now (spans .entry)) (now (stripes .entry)) (now (list .entry)) (now (bytes .entry)) (now (work .entry)) options (now (sizes .entry)) (now (coords .entry)) ≡ (r, now (table .exit), now (spans .exit), now (stripes .exit), now (list .exit), now (bytes .exit), now (work .exit)) ⌝ }
 {
     let n = sizes.len();
-    if (table.len() < 10 * n) | (spans.len() < 2 * n) {
+    if (table.len() < Row::NUMBERS * n) | (spans.len() < 2 * n) {
         return Built::Unbuilt(Refusal::NoRoom);
     }
     if index_rings(
@@ -191,11 +193,9 @@ fn build_shaped(
     )
 }
 
-// Builds the indexes of all rings. The table has ten numbers a ring: segments; 1 where an index is asked
-// for and the ring is under the threshold; kinds, 1 for stripes and 2 for a tree; where its stripes
-// start, and how many; where its list starts, and how many; the fullest stripe; where its bytes start,
-// and how many. `spans` has two a ring, least y and height. The stripes, lists and bytes of all rings
-// stand in one room each, in ring order.
+// Builds the indexes of all rings. The table has ten numbers a ring, as `Row` names them; `spans` has two
+// a ring, least y and height. The stripes, lists and bytes of all rings stand in one room each, in ring
+// order.
 pub fn build_indexes(
     sizes: &[u32],
     coords: &[i32],
@@ -229,12 +229,12 @@ pub fn build_indexes(
 // Number i of ring k's row; one that is missing counts as 0.
 fn number_at(table: &[u64], k: usize, i: usize) -> usize
     requires { ⌜ i < 10 ⌝ }
-    ensures { λ r. ⌜ r ≡ numberAt (now (table .entry)) k i ⌝ }
+    ensures { λ r. ⌜ r ≡ number (now (table .entry)) k i ⌝ }
 {
-    if table.len() / 10 < k {
+    if table.len() / Row::NUMBERS < k {
         return 0;
     }
-    let at = 10 * k + i;
+    let at = Row::NUMBERS * k + i;
     if table.len() <= at {
         return 0;
     }
@@ -245,12 +245,12 @@ fn number_at(table: &[u64], k: usize, i: usize) -> usize
 pub fn index_stats(table: &[u64], k: usize) -> RingBuildStats
     ensures { λ r. ⌜ r ≡ statsAt (now (table .entry)) k ⌝ }
 {
-    let segments = number_at(table, k, 0);
-    let under = number_at(table, k, 1);
-    let kinds = number_at(table, k, 2);
-    let stripes = number_at(table, k, 4);
-    let entries = number_at(table, k, 6);
-    let fullest = number_at(table, k, 7);
+    let segments = number_at(table, k, Row::SEGMENTS);
+    let under = number_at(table, k, Row::UNDER);
+    let kinds = number_at(table, k, Row::KINDS);
+    let stripes = number_at(table, k, Row::STRIPES);
+    let entries = number_at(table, k, Row::ENTRIES);
+    let fullest = number_at(table, k, Row::FULLEST);
     let striped = kinds % 2 == 1;
     RingBuildStats {
         segment_count: segments,

@@ -164,7 +164,7 @@ fn check_counts(sizes: &[u32]) -> Checked
 }
 
 // Rules 1 to 4 for a call that is lent more beside the coordinates: rule 3 asks too that this fits, which the caller has found out.
-pub fn check_shape_with(fits: bool, sizes: &[u32], coords: &[i32]) -> Checked
+fn check_shape_with(fits: bool, sizes: &[u32], coords: &[i32]) -> Checked
     ensures { λ r. ⌜ r ≡ shapeWith fits (now (sizes .entry)) (now (coords .entry)) ⌝ }
 {
     let counts = check_counts(sizes);

@@ -1,5 +1,6 @@
 // What one ring of an outline gets when indexes are asked for, in the rooms that all rings share. The
 // functions that are not methods are for the crate above, which has checked the rings.
+use outline_table::Row;
 use stripes_build::StripesBuilt;
 use stripes_build::build_stripes;
 use tree_build::TreeBuilt;
@@ -223,18 +224,18 @@ fn bit_of(b: bool) -> u64
 }
 
 // Ten numbers at a place.
-fn put_row(table: &mut [u64], at: usize, row: &[u64; 10])
+fn put_row(table: &mut [u64], at: usize, row: &[u64; Row::NUMBERS])
     requires { ⌜ (at + 10 ≤ length (now table)) × (length (now row) ≡ 10) ⌝ }
     ensures { λ _. ⌜ now (table .exit) ≡ paste (now (table .entry)) at (now (row .entry)) 10 ⌝ }
 {
     let mut i: usize = 0;
-    while i < 10 {
+    while i < Row::NUMBERS {
         table[at + i] = row[i];
         i += 1;
     }
 }
 
-// Writes ring k's row of the table and its span, by what it got. For the crate above, which has
+// Writes ring k's row of the table, in the order that `Row` names, and its span, by what it got. For the crate above, which has
 // measured both rooms.
 pub fn put_ring(
     table: &mut [u64],
@@ -261,7 +262,7 @@ pub fn put_ring(
         at.bytes as u64,
         gain.bytes as u64,
     ];
-    put_row(table, 10 * k, &row);
+    put_row(table, Row::NUMBERS * k, &row);
     let place = 2 * k;
     spans[place] = gain.least;
     spans[place + 1] = gain.height;

@@ -19,7 +19,8 @@ use Rattle.stripes_index.proofs.Pairs.{pairs-length}
 use Rattle.stripes_build.specs.Build.{crossesIn}
 use Rattle.tree.specs.Tree.{treeOf, packed}
 use Rattle.outline_check.specs.Outline.{rings, sizeAt, ringOf}
-use Rattle.outline_ring.specs.RingIndex.{Indexes, lent, none, part, lies, number, hasStripes, hasTree, leastOf, heightOf, stripesOf, listOf, bytesOf, stripesLie, treeLies}
+use Rattle.outline_ring.specs.RingIndex.{Indexes, lent, none, part, lies, hasStripes, hasTree, leastOf, heightOf, stripesOf, listOf, bytesOf, stripesLie, treeLies}
+use Rattle.outline_table.specs.Row.{number}
 use Rattle.outline_index.specs.declared.BuildOptions.{BuildOptions}
 use Rattle.outline_index.specs.Pools.{padWith}
 use Rattle.outline_index.specs.Parts.{noHeight, hasStripes as getsStripes, hasTree as getsTree, ringStripes, ringList, stripesPart, listPart, bytesPart, leastIn, heightIn, spanPart, stripesIn, entriesIn, fewStripes}

@@ -20,7 +20,8 @@ use Rattle.stripes_find.specs.Search.{searched as stripesSearched}
 use Rattle.stripes_test.specs.Test.{verdict as stripesVerdict}
 use Rattle.tree.specs.Search.{searched as treeSearched}
 use Rattle.tree_find.specs.Find.{verdict as treeVerdict}
-use Rattle.outline_ring.specs.RingIndex.{Indexes, none, number, hasStripes, hasTree, leastOf, heightOf, stripesOf, listOf, bytesOf, stripesLie, treeLies, stripesAsked, treeAsked, ringAsked}
+use Rattle.outline_ring.specs.RingIndex.{Indexes, none, hasStripes, hasTree, leastOf, heightOf, stripesOf, listOf, bytesOf, stripesLie, treeLies, stripesAsked, treeAsked, ringAsked}
+use Rattle.outline_table.specs.Row.{number}
 use Rattle.outline_ring.proofs.Parts.{any-default}
 
 module _ (x : Indexes) (k : ℕ) (box : Rect) (ring : ℕ → Float) (n : ℕ) (p : Point) (edge : Bool) where

@@ -16,6 +16,7 @@ use Rattle.stripes_find.specs.Search.{searched as stripesSearched}
 use Rattle.stripes_test.specs.Test.{verdict as stripesVerdict}
 use Rattle.tree.specs.Search.{searched as treeSearched}
 use Rattle.tree_find.specs.Find.{verdict as treeVerdict}
+use Rattle.outline_table.specs.Row.{number, kindsPlace, stripesStart, stripesPlace, listStart, entriesPlace, bytesStart, bytesPlace}
 
 -- The indexes of all rings of an outline: a table, ten numbers a ring; least y and height, two floats a ring; and the stripes, lists and bytes of all
 -- rings in one row each, in which the table says where a ring's own part starts and how much of it there is.
@@ -41,16 +42,12 @@ lies xs at n = leb (at + n) (length xs)
 abbrev pub none : Float
 none = ofBits binary64 0
 
--- A number of ring k's ten in the table. One that is missing counts as 0, so a ring without a row has no index.
-abbrev pub number : List ℕ → ℕ → ℕ → ℕ
-number table k i = getD table (10 * k + i) 0
-
--- number 2 says which indexes the ring has: 1 for stripes, 2 for a tree, 3 for both
+-- which indexes the ring has: 1 for stripes, 2 for a tree, 3 for both
 abbrev pub hasStripes : List ℕ → ℕ → Bool
-hasStripes table k = eqb (number table k 2 % 2) 1
+hasStripes table k = eqb (number table k kindsPlace % 2) 1
 
 abbrev pub hasTree : List ℕ → ℕ → Bool
-hasTree table k = eqb (number table k 2 / 2 % 2) 1
+hasTree table k = eqb (number table k kindsPlace / 2 % 2) 1
 
 abbrev pub leastOf : List Float → ℕ → Float
 leastOf spans k = getD spans (2 * k) none
@@ -58,27 +55,27 @@ leastOf spans k = getD spans (2 * k) none
 abbrev pub heightOf : List Float → ℕ → Float
 heightOf spans k = getD spans (2 * k + 1) none
 
--- where the ring's part starts, and how much it is: numbers 3 and 4 of its stripes, two numbers a stripe
+-- the ring's own part of all stripes, two numbers a stripe
 abbrev pub stripesOf : List ℕ → List ℕ → ℕ → List ℕ
-stripesOf table stripes k = part stripes (number table k 3) (2 * number table k 4)
+stripesOf table stripes k = part stripes (number table k stripesStart) (2 * number table k stripesPlace)
 
--- 5 and 6 of its list
+-- of all lists
 abbrev pub listOf : List ℕ → List ℕ → ℕ → List ℕ
-listOf table list k = part list (number table k 5) (number table k 6)
+listOf table list k = part list (number table k listStart) (number table k entriesPlace)
 
--- 8 and 9 of its tree's bytes
+-- of the bytes of all trees
 abbrev pub bytesOf : List ℕ → List ℕ → ℕ → List ℕ
-bytesOf table bytes k = part bytes (number table k 8) (number table k 9)
+bytesOf table bytes k = part bytes (number table k bytesStart) (number table k bytesPlace)
 
 -- What the table says that a ring has lies wholly in the rooms that are lent. The search can't tell that a part was cut short: of 32 stripes of which
 -- 16 are lent it takes the last of the 16 for the uppermost, and misses segments with no refusal.
 abbrev pub stripesLie : Indexes → ℕ → Bool
 stripesLie x k =
-    lies (x .stripes) (number (x .table) k 3) (2 * number (x .table) k 4) && lies (x .list) (number (x .table) k 5) (number (x .table) k 6)
+    lies (x .stripes) (number (x .table) k stripesStart) (2 * number (x .table) k stripesPlace) && lies (x .list) (number (x .table) k listStart) (number (x .table) k entriesPlace)
     && lies (x .spans) (2 * k) 2
 
 abbrev pub treeLies : Indexes → ℕ → Bool
-treeLies x k = lies (x .bytes) (number (x .table) k 8) (number (x .table) k 9)
+treeLies x k = lies (x .bytes) (number (x .table) k bytesStart) (number (x .table) k bytesPlace)
 
 -- The ring test through each, of a ring by its numbers as floats. A part that doesn't lie there is damage, place 0, before the search and so at every height.
 abbrev pub stripesAsked : Indexes → ℕ → (ℕ → Float) → ℕ → Point → Bool → Answer

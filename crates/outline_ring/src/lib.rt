@@ -4,6 +4,7 @@ use answers::Refusal;
 use boxes::Point;
 use boxes::Rect;
 use cast_test::scan_in;
+use outline_table::Row;
 use tree::QuadTree;
 ghost use mathlib.Core.Path.{_≡_};
 ghost use Prim.Native.Nat.{_+_, _*_, _<_, _≤_};
@@ -55,11 +56,11 @@ fn by_stripes(
     requires { ⌜ (n * 2 + 2 ≤ length (now ring)) × (k < 64) ⌝ }
     ensures { λ r. ⌜ r ≡ stripesAsked (lent (now (table .entry)) (now (spans .entry)) (now (stripes .entry)) (now (list .entry)) []) k (wide (now (ring .entry))) n p edge ⌝ }
 {
-    let row = 10 * k;
-    let from = number_at(table, row + 3);
-    let count = number_at(table, row + 4);
-    let at = number_at(table, row + 5);
-    let entries = number_at(table, row + 6);
+    let row = Row::NUMBERS * k;
+    let from = number_at(table, row + Row::STRIPES_START);
+    let count = number_at(table, row + Row::STRIPES);
+    let at = number_at(table, row + Row::LIST_START);
+    let entries = number_at(table, row + Row::ENTRIES);
     let span = 2 * k;
     if !(stripes_lie(stripes.len(), from, count)
         & lies(list.len(), at, entries)
@@ -93,9 +94,9 @@ fn by_tree(
     requires { ⌜ (tree .segments * 2 + 2 ≤ length (now ring)) × (tree .segments < 4294967296) × (k < 64) ⌝ }
     ensures { λ r. ⌜ r ≡ treeAsked (lent (now (table .entry)) [] [] [] (now (bytes .entry))) k (tree .bounds) (wide (now (ring .entry))) (tree .segments) p edge ⌝ }
 {
-    let row = 10 * k;
-    let at = number_at(table, row + 8);
-    let long = number_at(table, row + 9);
+    let row = Row::NUMBERS * k;
+    let at = number_at(table, row + Row::BYTES_START);
+    let long = number_at(table, row + Row::BYTES);
     if !lies(bytes.len(), at, long) {
         return Answer::Refused(Refusal::Damaged(0));
     }
@@ -120,7 +121,7 @@ pub fn ring_asked(
     ensures { λ r. ⌜ r ≡ ringAsked (lent (now (table .entry)) (now (spans .entry)) (now (stripes .entry)) (now (list .entry)) (now (bytes .entry))) k (tree .bounds) (wide (now (ring .entry))) (tree .segments) p edge ⌝ }
 {
     let n = tree.segments;
-    let kinds = number_at(table, 10 * k + 2);
+    let kinds = number_at(table, Row::NUMBERS * k + Row::KINDS);
     if kinds % 2 == 1 {
         return by_stripes(ring, n, k, table, spans, stripes, list, p, edge);
     }

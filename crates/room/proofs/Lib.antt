@@ -5,4 +5,3 @@ pub mod Fill
 pub mod UpTo
 pub mod Count
 pub mod Pour
-pub mod Each

@@ -1,2 +1,1 @@
 pub mod Pour
-pub mod Each

@@ -381,8 +381,8 @@ fn search(tree: QuadTree, coords: &[i32], bytes: &[u8], y: f64, task: Task, out:
     }
 }
 
-// Lists the segments found at height y. For the crates above, which have checked the ring and the height.
-pub fn list_in(tree: QuadTree, coords: &[i32], bytes: &[u8], y: f64, out: &mut [u32]) -> TreeListed
+// Lists the segments found at height y. For a ring and a height that passed their checks.
+fn list_in(tree: QuadTree, coords: &[i32], bytes: &[u8], y: f64, out: &mut [u32]) -> TreeListed
     requires { ⌜ (tree .segments * 2 + 2 ≤ length (now coords)) × (tree .segments < 4294967296) ⌝ }
     ensures { λ r. ⌜ answered (length (now (out .entry))) (searched (now (bytes .entry)) (wide (now (coords .entry))) (tree .segments) y (tree .bounds)) ≡ (r, now (out .exit)) ⌝ }
 {

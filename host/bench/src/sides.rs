@@ -1,6 +1,6 @@
 //! The two sides: the library through its C interface, and the Rust.
 
-use brothstitch::c;
+use brothstitch::{c, row};
 use cases::rings::{self, Ring};
 use geometry_rs::{I32Point, I32Polygon, I32RaycastMode, Point, PolygonBuildOptions};
 
@@ -55,7 +55,7 @@ impl Ours {
             sizes,
             coords: all.iter().flat_map(|r| rings::coordinates(r)).collect(),
             boxes: vec![0; 4 * n],
-            table: vec![0; 10 * n],
+            table: vec![0; row::NUMBERS * n],
             spans: vec![0.0; 2 * n],
             stripes: vec![],
             list: vec![],
@@ -75,9 +75,14 @@ impl Ours {
             self.lend(n);
         }
         let column = |at: usize, len: usize, each: usize| {
-            self.table.chunks_exact(10).map(|row| row[at] as usize + each * row[len] as usize).max().unwrap_or(0)
+            let ends = self.table.chunks_exact(row::NUMBERS).map(|numbers| (numbers[at], numbers[len]));
+            ends.map(|(at, len)| at as usize + each * len as usize).max().unwrap_or(0)
         };
-        let (stripes, list, bytes) = (column(3, 4, 2), column(5, 6, 1), column(8, 9, 1));
+        let (stripes, list, bytes) = (
+            column(row::STRIPES_START, row::STRIPES, 2),
+            column(row::LIST_START, row::ENTRIES, 1),
+            column(row::BYTES_START, row::BYTES, 1),
+        );
         self.stripes.truncate(stripes);
         self.list.truncate(list);
         self.bytes.truncate(bytes);
@@ -142,8 +147,10 @@ impl Ours {
 
     /// For each ring segments, stripes, entries in all, fullest stripe, and whether it has a tree.
     pub fn told(&self) -> Vec<([usize; 4], bool)> {
-        let four = |row: &[u64]| [row[0], row[4], row[6], row[7]].map(|n| n as usize);
-        self.table.chunks_exact(10).map(|row| (four(row), row[2] & 2 != 0)).collect()
+        let four = |numbers: &[u64]| {
+            [row::SEGMENTS, row::STRIPES, row::ENTRIES, row::FULLEST].map(|column| numbers[column] as usize)
+        };
+        self.table.chunks_exact(row::NUMBERS).map(|numbers| (four(numbers), numbers[row::KINDS] & 2 != 0)).collect()
     }
 }
 

@@ -10,6 +10,7 @@ mod outline;
 mod refusal;
 mod ring;
 mod rooms;
+pub mod row;
 
 pub use outline::{Bounds, BuildOptions, Index, Outline, RingStats, StripeStats};
 pub use refusal::Refusal;

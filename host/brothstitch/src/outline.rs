@@ -3,10 +3,8 @@
 use crate::ffi::{self, Asked, IndexRooms, LentIndex, LentRings};
 use crate::ring::Ring;
 use crate::rooms::Room;
+use crate::row;
 use crate::{Edge, Mode, Refusal};
-
-/// Numbers of a ring in the index's table.
-const ROW: usize = 10;
 
 /// Which indexes are built, and from how many segments on.
 #[derive(Clone, Copy, Debug, PartialEq, Eq)]
@@ -127,7 +125,7 @@ impl Outline {
     fn build_in(&self, room: Room, options: BuildOptions) -> Result<Index, Refusal> {
         let rings = self.sizes.len();
         let mut index = Index {
-            table: vec![0; ROW * rings],
+            table: vec![0; row::NUMBERS * rings],
             spans: vec![0.0; 2 * rings],
             stripes: vec![0; room.stripes],
             list: vec![0; room.list],
@@ -142,8 +140,8 @@ impl Outline {
             work: &mut vec![0; room.work],
         };
         ffi::build(self.lent(), options.bits(), options.min_segments, rooms)?;
-        let used = |column: usize| index.table.chunks_exact(ROW).map(|row| row[column] as usize).sum::<usize>();
-        let (stripes, list, bytes) = (2 * used(4), used(6), used(9));
+        let used = |column: usize| index.table.chunks_exact(row::NUMBERS).map(|numbers| numbers[column] as usize).sum::<usize>();
+        let (stripes, list, bytes) = (2 * used(row::STRIPES), used(row::ENTRIES), used(row::BYTES));
         index.stripes.truncate(stripes);
         index.list.truncate(list);
         index.bytes.truncate(bytes);
@@ -198,14 +196,15 @@ impl Outline {
 
     /// What the last build did for ring k; none before a build.
     pub fn stats(&self, k: usize) -> Option<RingStats> {
-        let row = self.index.table.get(ROW * k..ROW * (k + 1))?;
-        let [segments, stripes, entries, fullest] = [row[0], row[4], row[6], row[7]];
+        let numbers = self.index.table.get(row::NUMBERS * k..row::NUMBERS * (k + 1))?;
+        let [segments, stripes, entries, fullest] =
+            [row::SEGMENTS, row::STRIPES, row::ENTRIES, row::FULLEST].map(|column| numbers[column]);
         let four = StripeStats { segments, stripes, entries, fullest };
         Some(RingStats {
             segments,
-            below_threshold: row[1] == 1,
-            stripes: (row[2] & 1 == 1).then_some(four),
-            tree: row[2] & 2 == 2,
+            below_threshold: numbers[row::UNDER] == 1,
+            stripes: (numbers[row::KINDS] & 1 == 1).then_some(four),
+            tree: numbers[row::KINDS] & 2 == 2,
         })
     }
 }

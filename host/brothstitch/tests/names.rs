@@ -1,6 +1,6 @@
 //! The header's names stand for the numbers that the wrapper uses.
 
-use brothstitch::{BuildOptions, Outline, Refusal};
+use brothstitch::{row, BuildOptions, Outline, Refusal};
 use std::collections::BTreeMap;
 use std::fs;
 
@@ -23,6 +23,25 @@ fn numbers_of_the_header() {
     assert_eq!(number("MIN_POINTS"), Outline::MIN_POINTS);
     assert_eq!(number("MAX_POINTS"), Outline::MAX_POINTS);
     assert_eq!(number("DEFAULT_THRESHOLD"), BuildOptions::DEFAULT_MIN_SEGMENTS);
+    assert_eq!(number("ROW"), row::NUMBERS);
+    let columns = [
+        ("SEGMENTS", row::SEGMENTS),
+        ("UNDER", row::UNDER),
+        ("KINDS", row::KINDS),
+        ("STRIPES_START", row::STRIPES_START),
+        ("STRIPES", row::STRIPES),
+        ("LIST_START", row::LIST_START),
+        ("ENTRIES", row::ENTRIES),
+        ("FULLEST", row::FULLEST),
+        ("BYTES_START", row::BYTES_START),
+        ("BYTES", row::BYTES),
+    ];
+    assert!(columns.iter().enumerate().all(|(at, &(_, column))| at == column), "each number of a row has a name");
+    let library = include_str!("../../../crates/outline_table/src/lib.rt");
+    for (name, column) in columns {
+        assert_eq!(number(&format!("ROW_{name}")), column, "{name}");
+        assert!(library.contains(&format!("pub const {name}: usize = {column};")), "{name} in the library");
+    }
     let refusals = [
         ("TOO_FEW", Refusal::TooFew { ring: 0 }),
         ("TOO_MANY", Refusal::TooManyRings),

@@ -2,6 +2,7 @@
 
 use crate::calls::{Pools, Rings, Stripes};
 use crate::lent::{pattern, Number};
+use brothstitch::row;
 use cases::{damage, floats, limits, points, Random};
 use model::ring::Ring;
 use model::{outline, stripes, tree};
@@ -213,8 +214,8 @@ pub fn damaged_pools(random: &mut Random, good: &Pools) -> Pools {
         12..=15 => damaged_part(random, &mut pools),
         // each ring without some of what it has
         0..=2 => {
-            for row in pools.table.chunks_exact_mut(outline::COLUMNS) {
-                row[2] &= random.next();
+            for numbers in pools.table.chunks_exact_mut(outline::COLUMNS) {
+                numbers[row::KINDS] &= random.next();
             }
         }
         3 | 4 => pools.table = damage::numbers(random, &pools.table),
@@ -245,25 +246,34 @@ fn damaged_part(random: &mut Random, pools: &mut Pools) {
     if rings == 0 {
         return;
     }
-    let row = &mut pools.table[outline::COLUMNS * random.below(rings)..][..outline::COLUMNS];
-    let part = |at: u64, n: u64| at as usize..at as usize + n as usize;
+    let numbers = &mut pools.table[outline::COLUMNS * random.below(rings)..][..outline::COLUMNS];
+    let part = |start: usize, count: usize, each: u64| {
+        let at = numbers[start] as usize;
+        at..at + (each * numbers[count]) as usize
+    };
+    let starts = [row::STRIPES_START, row::LIST_START, row::BYTES_START];
+    let counts = [row::STRIPES, row::ENTRIES, row::BYTES];
     match random.below(6) {
         // numbers that no segment has, from a place on
         0 => {
-            let from = random.below(1 + row[6] as usize);
-            pools.list[part(row[5], row[6])][from..].iter_mut().for_each(|i| *i += row[0] as u32);
+            let from = random.below(1 + numbers[row::ENTRIES] as usize);
+            let list = &mut pools.list[part(row::LIST_START, row::ENTRIES, 1)];
+            list[from..].iter_mut().for_each(|i| *i += numbers[row::SEGMENTS] as u32);
         }
-        1 => pools.stripes[part(row[3], 2 * row[4])].iter_mut().for_each(|n| *n = n.saturating_add(u32::MAX / 2)),
+        1 => {
+            let stripes = &mut pools.stripes[part(row::STRIPES_START, row::STRIPES, 2)];
+            stripes.iter_mut().for_each(|n| *n = n.saturating_add(u32::MAX / 2));
+        }
         2 => {
-            let bytes = &mut pools.bytes[part(row[8], row[9])];
+            let bytes = &mut pools.bytes[part(row::BYTES_START, row::BYTES, 1)];
             let changed = damaged_bytes(random, bytes);
             let n = changed.len().min(bytes.len());
             bytes[..n].copy_from_slice(&changed[..n]);
         }
         // shorter than it is, or somewhere else
-        3 => [4, 6, 9].into_iter().for_each(|column| row[column] = row[column].min(random.below(3) as u64)),
-        4 => [4, 6, 9].into_iter().for_each(|column| row[column] = row[column].saturating_sub(1)),
-        _ => [3, 5, 8].into_iter().for_each(|column| row[column] = random.any_length()),
+        3 => counts.into_iter().for_each(|column| numbers[column] = numbers[column].min(random.below(3) as u64)),
+        4 => counts.into_iter().for_each(|column| numbers[column] = numbers[column].saturating_sub(1)),
+        _ => starts.into_iter().for_each(|column| numbers[column] = random.any_length()),
     }
 }
 

@@ -24,7 +24,7 @@ pub fn damaged(place: usize) -> No {
 
 /// Refusals 1 to 7 touch no lent room; 8 and 9 fill it with zeros.
 pub fn leaves_zeros(no: No) -> bool {
-    no.0 >= 8
+    matches!(no.0, 8 | 9)
 }
 
 /// Puts what a call found into the room that it was lent, with zeros behind it.

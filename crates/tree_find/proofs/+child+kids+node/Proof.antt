@@ -65,67 +65,51 @@ kids-claims t = (child-below t, child.Post, finish-reads.Asked, finish-reads.Lea
 abbrev node-claims : ℕ → node-lts.Claims
 node-claims t = (own-reads.Asked, own-reads.Learnt, finish-reads.Asked, finish-reads.Learnt, kids-below t, kids.Post)
 
--- src/lib.rt:223:11
 child-read-uvarint-requires : (t : ℕ) → child-lts.Need-read-uvarint-requires (child-claims t) (child-at t) child.Post
 child-read-uvarint-requires t c κs = search needs
 
--- src/lib.rt:224:29
 child-enum-known-why : (t : ℕ) → child-lts.Need-enum-known-why (child-claims t) (child-at t) child.Post
 child-enum-known-why t c = search needs
 
--- src/lib.rt:225:28
 child-enum-known-size : (t : ℕ) → child-lts.Need-enum-known-size (child-claims t) (child-at t) child.Post
 child-enum-known-size t c = search needs
 
--- src/lib.rt:227:17
 child-returns : (t : ℕ) → child-lts.Need-returns (child-claims t) (child-at t) child.Post
 child-returns t c = child-none _ _ _ _ _ _ _ _ _ _ _ _ _ _ _ (sym (c .before .before .before .before .read-uvarint .ensures) ∙ c .before .before .size .given .1) (c .if1 .taken)
 
--- src/lib.rt:230:17
 child-returns-2 : (t : ℕ) → child-lts.Need-returns-2 (child-claims t) (child-at t) child.Post
 child-returns-2 t c = child-deep _ _ _ _ _ _ _ _ _ _ _ _ _ _ _ (sym (c .before .before .before .before .before .read-uvarint .ensures) ∙ c .before .before .before .size .given .1) (c .before .if1 .left) (eq-eqb _ _ (c .if2 .taken))
 
--- src/lib.rt:232:18
 child-sub-if3 : (t : ℕ) → child-lts.Need-sub-if3 (child-claims t) (child-at t) child.Post
 child-sub-if3 t c = read-within (c .before .before .before .before .before .before .before .before .args .bytes .now) (c .before .before .before .before .before .before .before .before .args .end) (c .before .before .before .before .before .before .before .before .args .p) (c .before .before .before .size .given .0 .0) (c .before .before .before .size .given .0 .1 .0) (sym (c .before .before .before .before .before .read-uvarint .ensures) ∙ c .before .before .before .size .given .1)
 
--- src/lib.rt:233:17
 child-returns-3 : (t : ℕ) → child-lts.Need-returns-3 (child-claims t) (child-at t) child.Post
 child-returns-3 t c = quad-past _ _ _ _ _ _ _ _ _ _ _ _ _ _ (sym (c .before .before .before .before .before .before .read-uvarint .ensures) ∙ c .before .before .before .before .size .given .1) (c .before .before .if1 .left) (c .before .if2 .left) (c .if3 .taken)
 
--- src/lib.rt:235:24
 child-add-next : (t : ℕ) → child-lts.Need-add-next (child-claims t) (child-at t) child.Post
 child-add-next t c = let w = read-within (c .before .before .before .before .before .before .before .before .before .args .bytes .now) (c .before .before .before .before .before .before .before .before .before .args .end) (c .before .before .before .before .before .before .before .before .before .args .p) (c .before .before .before .before .size .given .0 .0) (c .before .before .before .before .size .given .0 .1 .0) (sym (c .before .before .before .before .before .before .read-uvarint .ensures) ∙ c .before .before .before .before .size .given .1) in omega (arith, c .if3 .left)
 
--- src/lib.rt:236:17
 child-quad-bounds-requires : (t : ℕ) → child-lts.Need-quad-bounds-requires (child-claims t) (child-at t) child.Post
 child-quad-bounds-requires t c κs = search needs
 
--- src/lib.rt:237:16
 child-meets-height-requires : (t : ℕ) → child-lts.Need-meets-height-requires (child-claims t) (child-at t) child.Post
 child-meets-height-requires t c κs = search needs
 
--- src/lib.rt:238:57
 child-sub-node : (t : ℕ) → child-lts.Need-sub-node (child-claims t) (child-at t) child.Post
 child-sub-node t c = search needs
 
--- src/lib.rt:238:17
 child-node-requires : (t : ℕ) → child-lts.Need-node-requires (child-claims t) (child-at t) child.Post
 child-node-requires t c κs = let w = read-within (c .before .before .before .before .before .before .before .before .before .before .before .before .before .args .bytes .now) (c .before .before .before .before .before .before .before .before .before .before .before .before .before .args .end) (c .before .before .before .before .before .before .before .before .before .before .before .before .before .args .p) (c .before .before .before .before .before .before .before .before .size .given .0 .0) (c .before .before .before .before .before .before .before .before .size .given .0 .1 .0) (sym (c .before .before .before .before .before .before .before .before .before .before .read-uvarint .ensures) ∙ c .before .before .before .before .before .before .before .before .size .given .1) in (omega (arith, c .before .before .before .before .before .before .before .before .before .before .before .before .before .pre .0, c .before .before .before .before .before .if2 .left), (c .before .before .before .before .before .before .before .before .before .before .before .before .before .pre .1 .0, c .before .before .before .before .before .before .before .before .before .before .before .before .before .pre .1 .1, omega (arith, c .before .before .before .before .if3 .left, c .before .before .before .before .before .before .before .before .before .before .before .before .before .pre .1 .2)))
 
--- src/lib.rt:238:17
 child-same-length : (t : ℕ) → child-lts.Need-same-length (child-claims t) (child-at t) child.Post
 child-same-length t c = search needs
 
--- src/lib.rt:238:17
 child-returns-4 : (t : ℕ) → child-lts.Need-returns-4 (child-claims t) (child-at t) child.Post
 child-returns-4 t c = quad-visit _ _ _ _ _ _ _ _ _ _ _ _ _ _ (sym (c .before .before .before .before .before .before .before .before .before .before .before .before .before .read-uvarint .ensures) ∙ c .before .before .before .before .before .before .before .before .before .before .before .size .given .1) (c .before .before .before .before .before .before .before .before .before .if1 .left) (c .before .before .before .before .before .before .before .before .if2 .left) (c .before .before .before .before .before .before .before .if3 .left) _ (c .before .before .before .before .before .before .quad-bounds .ensures) _ (c .before .before .before .before .before .meets-height .ensures) _ (c .before .before .before .before .if4 .taken) (c .before .before .node .ensures)
 
--- src/lib.rt:206:1
 child-returns-5 : (t : ℕ) → child-lts.Need-returns-5 (child-claims t) (child-at t) child.Post
 child-returns-5 t c = child-unread _ _ _ _ _ _ _ _ _ _ _ _ _ _ (sym (c .before .before .before .read-uvarint .ensures) ∙ c .before .why .given .1)
 
--- src/lib.rt:206:1
 child-returns-6 : (t : ℕ) → child-lts.Need-returns-6 (child-claims t) (child-at t) child.Post
 child-returns-6 t c = quad-skip _ _ _ _ _ _ _ _ _ _ _ _ _ _ (sym (c .before .before .before .before .before .before .before .before .before .read-uvarint .ensures) ∙ c .before .before .before .before .before .before .before .size .given .1) (c .before .before .before .before .before .if1 .left) (c .before .before .before .before .if2 .left) (c .before .before .before .if3 .left) _ (c .before .before .quad-bounds .ensures) _ (c .before .meets-height .ensures) (c .if4 .left)
 
@@ -138,123 +122,93 @@ kids-Inv-loop bytes coords segments y left bounds end at task out₀ p₀ q₀ s
 abbrev kids-μ-loop : kids-lts.MeasureT-loop
 kids-μ-loop bytes coords segments y left bounds end at task out₀ p₀ q₀ state₀ out p q state = 4 - q
 
--- src/lib.rt:265:5
 kids-loop-holds : (t : ℕ) → kids-lts.Need-loop-holds (kids-claims t) (kids-at t) kids.Post kids-Inv-loop kids-μ-loop
 kids-loop-holds t c = (refl, refl)
 
--- src/lib.rt:266:15
 kids-child-requires : (t : ℕ) → kids-lts.Need-child-requires (kids-claims t) (kids-at t) kids.Post kids-Inv-loop kids-μ-loop
 kids-child-requires t c κs = (omega (arith, c .before .before .before .before .before .pre .0), c .before .before .before .before .before .pre .1)
 
--- src/lib.rt:267:27
 kids-enum-known-why : (t : ℕ) → kids-lts.Need-enum-known-why (kids-claims t) (kids-at t) kids.Post kids-Inv-loop kids-μ-loop
 kids-enum-known-why t c = search needs
 
--- src/lib.rt:267:35
 kids-same-length : (t : ℕ) → kids-lts.Need-same-length (kids-claims t) (kids-at t) kids.Post kids-Inv-loop kids-μ-loop
 kids-same-length t c = search needs
 
--- src/lib.rt:267:35
 kids-returns : (t : ℕ) → kids-lts.Need-returns (kids-claims t) (kids-at t) kids.Post kids-Inv-loop kids-μ-loop
 kids-returns t c = c .before .before .before .before .before .before .before .before .loop .inv .0 ∙ kids-more _ _ _ _ _ _ _ _ _ _ _ _ _ (omega (arith, c .before .before .before .before .before .before .before .loop-test .taken)) ∙ then-stop _ _ _ _ (told (c .before .before .before .before .before .child .ensures) (c .before .why .given .1))
 
--- src/lib.rt:268:27
 kids-enum-known-next : (t : ℕ) → kids-lts.Need-enum-known-next (kids-claims t) (kids-at t) kids.Post kids-Inv-loop kids-μ-loop
 kids-enum-known-next t c = search needs
 
--- src/lib.rt:271:17
 kids-add-q : (t : ℕ) → kids-lts.Need-add-q (kids-claims t) (kids-at t) kids.Post kids-Inv-loop kids-μ-loop
 kids-add-q t c = search needs
 
--- src/lib.rt:265:5
 kids-loop-less : (t : ℕ) → kids-lts.Need-loop-less (kids-claims t) (kids-at t) kids.Post kids-Inv-loop kids-μ-loop
 kids-loop-less t c = search needs
 
--- src/lib.rt:265:5
 kids-loop-again : (t : ℕ) → kids-lts.Need-loop-again (kids-claims t) (kids-at t) kids.Post kids-Inv-loop kids-μ-loop
 kids-loop-again t c = (c .before .before .before .before .before .before .before .before .loop .inv .0 ∙ kids-more _ _ _ _ _ _ _ _ _ _ _ _ _ (omega (arith, c .before .before .before .before .before .before .before .loop-test .taken)) ∙ then-go _ _ _ _ _ (told (c .before .before .before .before .before .child .ensures) (c .before .next .given .1)), search needs)
 
--- src/lib.rt:275:5
 kids-finish-requires : (t : ℕ) → kids-lts.Need-finish-requires (kids-claims t) (kids-at t) kids.Post kids-Inv-loop kids-μ-loop
 kids-finish-requires t c κs = search needs
 
--- src/lib.rt:246:1
 kids-same-length-2 : (t : ℕ) → kids-lts.Need-same-length-2 (kids-claims t) (kids-at t) kids.Post kids-Inv-loop kids-μ-loop
 kids-same-length-2 t c = search needs
 
--- src/lib.rt:246:1
 kids-returns-2 : (t : ℕ) → kids-lts.Need-returns-2 (kids-claims t) (kids-at t) kids.Post kids-Inv-loop kids-μ-loop
 kids-returns-2 t c = told (c .before .before .loop .inv .0 ∙ kids-done _ _ _ _ _ _ _ _ _ _ _ _ _ (c .before .loop-test .left)) (sym (c .finish .ensures))
 
--- src/lib.rt:295:11
 node-own-requires : (t : ℕ) → node-lts.Need-own-requires (node-claims t) (node-at t) node.Post
 node-own-requires t c κs = search needs
 
--- src/lib.rt:296:23
 node-enum-known-why : (t : ℕ) → node-lts.Need-enum-known-why (node-claims t) (node-at t) node.Post
 node-enum-known-why t c = search needs
 
--- src/lib.rt:297:23
 node-enum-known-p : (t : ℕ) → node-lts.Need-enum-known-p (node-claims t) (node-at t) node.Post
 node-enum-known-p t c = search needs
 
--- src/lib.rt:299:17
 node-same-length : (t : ℕ) → node-lts.Need-same-length (node-claims t) (node-at t) node.Post
 node-same-length t c = search needs
 
--- src/lib.rt:299:17
 node-returns : (t : ℕ) → node-lts.Need-returns (node-claims t) (node-at t) node.Post
 node-returns t c = node-step _ _ _ _ _ _ _ _ _ _ _ ∙ then-go _ _ _ _ _ (told (c .before .before .before .before .before .before .own .ensures) (c .before .before .p .given .1)) ∙ split-missing _ _ _ _ _ _ _ _ _ _ _ _ (c .if1 .taken)
 
--- src/lib.rt:301:25
 node-shared-slice-read-split : (t : ℕ) → node-lts.Need-shared-slice-read-split (node-claims t) (node-at t) node.Post
 node-shared-slice-read-split t c = search needs
 
--- src/lib.rt:303:36
 node-add-finish : (t : ℕ) → node-lts.Need-add-finish (node-claims t) (node-at t) node.Post
 node-add-finish t c = search needs
 
--- src/lib.rt:303:17
 node-finish-requires : (t : ℕ) → node-lts.Need-finish-requires (node-claims t) (node-at t) node.Post
 node-finish-requires t c κs = search needs
 
--- src/lib.rt:303:17
 node-same-length-2 : (t : ℕ) → node-lts.Need-same-length-2 (node-claims t) (node-at t) node.Post
 node-same-length-2 t c = search needs
 
--- src/lib.rt:303:17
 node-returns-2 : (t : ℕ) → node-lts.Need-returns-2 (node-claims t) (node-at t) node.Post
 node-returns-2 t c = node-step _ _ _ _ _ _ _ _ _ _ _ ∙ then-go _ _ _ _ _ (told (c .before .before .before .before .before .before .before .before .before .own .ensures) (c .before .before .before .before .before .p .given .1)) ∙ told (split-leaf _ _ _ _ _ _ _ _ _ _ _ _ (c .before .before .before .if1 .left) (c .before .if2 .taken)) (sym (c .finish .ensures))
 
--- src/lib.rt:306:76
 node-add-kids : (t : ℕ) → node-lts.Need-add-kids (node-claims t) (node-at t) node.Post
 node-add-kids t c = search needs
 
--- src/lib.rt:306:17
 node-kids-requires : (t : ℕ) → node-lts.Need-kids-requires (node-claims t) (node-at t) node.Post
 node-kids-requires t c κs = (omega (arith, c .before .before .before .before .before .before .before .before .before .before .before .before .before .before .pre .0), c .before .before .before .before .before .before .before .before .before .before .before .before .before .before .pre .1)
 
--- src/lib.rt:306:17
 node-same-length-3 : (t : ℕ) → node-lts.Need-same-length-3 (node-claims t) (node-at t) node.Post
 node-same-length-3 t c = search needs
 
--- src/lib.rt:306:17
 node-returns-3 : (t : ℕ) → node-lts.Need-returns-3 (node-claims t) (node-at t) node.Post
 node-returns-3 t c = node-step _ _ _ _ _ _ _ _ _ _ _ ∙ then-go _ _ _ _ _ (told (c .before .before .before .before .before .before .before .before .before .before .before .before .before .own .ensures) (c .before .before .before .before .before .before .before .before .before .p .given .1)) ∙ split-kids _ _ _ _ _ _ _ _ _ _ _ _ (c .before .before .before .before .before .before .before .if1 .left) (c .before .before .before .before .if3 .taken) ∙ c .before .before .kids .ensures
 
--- src/lib.rt:279:1
 node-same-length-4 : (t : ℕ) → node-lts.Need-same-length-4 (node-claims t) (node-at t) node.Post
 node-same-length-4 t c = search needs
 
--- src/lib.rt:279:1
 node-returns-4 : (t : ℕ) → node-lts.Need-returns-4 (node-claims t) (node-at t) node.Post
 node-returns-4 t c = node-step _ _ _ _ _ _ _ _ _ _ _ ∙ then-stop _ _ _ _ (told (c .before .before .before .before .before .own .ensures) (c .before .why .given .1))
 
--- src/lib.rt:279:1
 node-same-length-5 : (t : ℕ) → node-lts.Need-same-length-5 (node-claims t) (node-at t) node.Post
 node-same-length-5 t c = search needs
 
--- src/lib.rt:279:1
 node-returns-5 : (t : ℕ) → node-lts.Need-returns-5 (node-claims t) (node-at t) node.Post
 node-returns-5 t c = node-step _ _ _ _ _ _ _ _ _ _ _ ∙ then-go _ _ _ _ _ (told (c .before .before .before .before .before .before .before .before .before .own .ensures) (c .before .before .before .before .before .p .given .1)) ∙ split-bad _ _ _ _ _ _ _ _ _ _ _ _ (c .before .before .before .if1 .left) (c .before .if2 .left) (c .if3 .left)
 

@@ -8,12 +8,10 @@ use Rattle.tree_find.proofs.finish.Tie as tie
 use Rattle.tree_find.proofs.finish.Reads as reads
 use Rattle.tree_find.proofs.finish.Lts as lts
 
--- src/lib.rt:195:1
 returns : tie.Need-returns
 unfolding finishOf
 returns c = rw (eq-eqb _ _ (c .if1 .taken))
 
--- src/lib.rt:195:1
 returns-2 : tie.Need-returns-2
 unfolding finishOf
 returns-2 c = rw (ne-eqb _ _ (c .if1 .left))

@@ -15,39 +15,30 @@ use Rattle.room.proofs.Fill.{pad-none}
 use Rattle.room.proofs.zero_fill_u32.Reads as zero-fill-u32-reads
 use Rattle.tree_find.proofs.search.Reads as search-reads
 
--- src/lib.rt:351:5
 zero-fill-u32-requires : tie.Need-zero-fill-u32-requires
 zero-fill-u32-requires c κs = search needs
 
--- src/lib.rt:352:11
 search-requires : tie.Need-search-requires
 search-requires c κs = search needs
 
--- src/lib.rt:353:26
 enum-known-seen : tie.Need-enum-known-seen
 enum-known-seen c = search needs
 
--- src/lib.rt:354:23
 enum-known-why : tie.Need-enum-known-why
 enum-known-why c = search needs
 
--- src/lib.rt:355:13
 zero-from-u32-requires : tie.Need-zero-from-u32-requires
 zero-from-u32-requires c κs = search needs
 
--- src/lib.rt:347:1
 same-length : tie.Need-same-length
 same-length c = search needs
 
--- src/lib.rt:347:1
 returns : tie.Need-returns
 returns c = list-reached _ _ _ _ _ (told (rw (c .before .before .before .before .before .before .before .before .before .zero-fill-u32 .ensures) at (c .before .before .before .before .before .search .ensures)) (c .before .seen .given .1))
 
--- src/lib.rt:347:1
 same-length-2 : tie.Need-same-length-2
 same-length-2 c = search needs
 
--- src/lib.rt:347:1
 returns-2 : tie.Need-returns-2
 returns-2 c = list-cleared _ _ _ _ _ (told (rw (c .before .before .before .before .before .before .before .before .before .before .before .before .before .zero-fill-u32 .ensures) at (c .before .before .before .before .before .before .before .before .before .search .ensures)) (c .before .before .before .before .before .why .given .1)) (c .before .before .before .before .before .before .before .before .before .search .kept .1 .1 .1 .1 .1 .0 ∙ c .before .before .before .before .before .before .before .before .before .before .before .before .before .zero-fill-u32 .kept .0) (c .before .before .zero-from-u32 .ensures ∙ pad-none _)
 

@@ -8,32 +8,25 @@ use Rattle.tree_find.proofs.list_one.Tie as tie
 use Rattle.tree_find.proofs.list_one.Reads as reads
 use Rattle.tree_find.proofs.list_one.Lts as lts
 
--- src/lib.rt:77:18
 cast-out : tie.Need-cast-out
 cast-out c = search needs
 
--- src/lib.rt:77:9
 mul-out : tie.Need-mul-out
 mul-out c = search needs
 
--- src/lib.rt:77:9
 slice-write-out : tie.Need-slice-write-out
 slice-write-out c = search needs
 
--- src/lib.rt:79:20
 add-t8 : tie.Need-add-t8
 add-t8 c = search needs
 
--- src/lib.rt:78:9
 same-length : tie.Need-same-length
 same-length c = search needs
 
--- src/lib.rt:78:9
 returns : tie.Need-returns
 unfolding listStep
 returns c = rw (lt-ltb _ _ (c .if1 .taken))
 
--- src/lib.rt:71:1
 returns-2 : tie.Need-returns-2
 unfolding listStep
 returns-2 c = rw (le-ltb _ _ (c .if1 .left))

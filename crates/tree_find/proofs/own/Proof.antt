@@ -9,31 +9,24 @@ use Rattle.tree_find.proofs.own.Lts as lts
 use Rattle.tree_find.proofs.own_list.Reads as own-list-reads
 use Rattle.varint.proofs.read_uvarint.Reads as read-uvarint-reads
 
--- src/lib.rt:186:11
 read-uvarint-requires : tie.Need-read-uvarint-requires
 read-uvarint-requires c κs = search needs
 
--- src/lib.rt:187:29
 enum-known-why : tie.Need-enum-known-why
 enum-known-why c = search needs
 
--- src/lib.rt:188:28
 enum-known-n : tie.Need-enum-known-n
 enum-known-n c = search needs
 
--- src/lib.rt:189:13
 own-list-requires : tie.Need-own-list-requires
 own-list-requires c κs = search needs
 
--- src/lib.rt:172:1
 returns : tie.Need-returns
 returns c = count-unread _ _ _ _ _ _ _ _ _ _ (sym (c .before .before .before .read-uvarint .ensures) ∙ c .before .why .given .1)
 
--- src/lib.rt:172:1
 same-length : tie.Need-same-length
 same-length c = search needs
 
--- src/lib.rt:172:1
 returns-2 : tie.Need-returns-2
 returns-2 c = count-read _ _ _ _ _ _ _ _ _ _ _ (sym (c .before .before .before .before .before .before .before .read-uvarint .ensures) ∙ c .before .before .before .before .before .n .given .1) ∙ c .before .before .own-list .ensures
 

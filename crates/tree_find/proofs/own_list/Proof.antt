@@ -24,83 +24,63 @@ Inv-loop bytes coords segments y end n at task out₀ p₀ last₀ left₀ state
 abbrev μ-loop : tie.MeasureT-loop
 μ-loop bytes coords segments y end n at task out₀ p₀ last₀ left₀ state₀ out p last left state = left
 
--- src/lib.rt:149:5
 loop-holds : tie.Need-loop-holds Inv-loop μ-loop
 loop-holds c = (refl, omega arith, refl)
 
--- src/lib.rt:150:15
 read-uvarint-requires : tie.Need-read-uvarint-requires Inv-loop μ-loop
 read-uvarint-requires c κs = search needs
 
--- src/lib.rt:151:33
 enum-known-why : tie.Need-enum-known-why Inv-loop μ-loop
 enum-known-why c = search needs
 
--- src/lib.rt:151:41
 same-length : tie.Need-same-length Inv-loop μ-loop
 same-length c = search needs
 
--- src/lib.rt:151:41
 returns : tie.Need-returns Inv-loop μ-loop
 returns c = c .before .before .before .before .before .loop .inv .0 ∙ own-unread _ _ _ _ _ _ _ _ _ _ _ _ (c .before .before .before .before .loop-test .taken) (sym (c .before .before .before .read-uvarint .ensures) ∙ c .before .why .given .1)
 
--- src/lib.rt:152:32
 enum-known-d : tie.Need-enum-known-d Inv-loop μ-loop
 enum-known-d c = search needs
 
--- src/lib.rt:153:20
 sub-if1 : tie.Need-sub-if1 Inv-loop μ-loop
 sub-if1 c = search needs
 
--- src/lib.rt:154:21
 same-length-2 : tie.Need-same-length-2 Inv-loop μ-loop
 same-length-2 c = search needs
 
--- src/lib.rt:154:21
 returns-2 : tie.Need-returns-2 Inv-loop μ-loop
 returns-2 c = c .before .before .before .before .before .before .loop .inv .0 ∙ own-over _ _ _ _ _ _ _ _ _ _ _ _ (sym (c .before .before .before .before .read-uvarint .ensures) ∙ c .before .before .d .given .1) _ (c .before .before .before .before .before .loop-test .taken) (omega (arith, c .if1 .taken, c .before .before .before .before .before .before .loop .inv .1))
 
--- src/lib.rt:156:17
 add-last : tie.Need-add-last Inv-loop μ-loop
 add-last c = search needs
 
--- src/lib.rt:157:23
 take-requires : tie.Need-take-requires Inv-loop μ-loop
 take-requires c κs = search needs
 
--- src/lib.rt:158:61
 enum-told : tie.Need-enum-told Inv-loop μ-loop
 enum-told c = search needs
 
--- src/lib.rt:158:40
 same-length-3 : tie.Need-same-length-3 Inv-loop μ-loop
 same-length-3 c = search needs
 
--- src/lib.rt:158:40
 returns-3 : tie.Need-returns-3 Inv-loop μ-loop
 returns-3 c = c .before .before .before .before .before .before .before .before .before .before .before .before .loop .inv .0 ∙ own-full _ _ _ _ _ _ _ _ _ _ _ _ (sym (c .before .before .before .before .before .before .before .before .before .before .read-uvarint .ensures) ∙ c .before .before .before .before .before .before .before .before .d .given .1) _ _ (c .before .before .before .before .before .before .before .before .before .before .before .loop-test .taken) (omega (arith, c .before .before .before .before .before .before .if1 .left, c .before .before .before .before .before .before .before .before .before .before .before .before .loop .inv .1)) (told-taken (c .before .before .before .before .take .ensures) (c .enum-told .given .1))
 
--- src/lib.rt:159:33
 enum-known-more : tie.Need-enum-known-more Inv-loop μ-loop
 enum-known-more c = search needs
 
--- src/lib.rt:162:25
 sub-left : tie.Need-sub-left Inv-loop μ-loop
 sub-left c = search needs
 
--- src/lib.rt:149:5
 loop-less : tie.Need-loop-less Inv-loop μ-loop
 loop-less c = search needs
 
--- src/lib.rt:149:5
 loop-again : tie.Need-loop-again Inv-loop μ-loop
 loop-again c = (c .before .before .before .before .before .before .before .before .before .before .before .before .before .loop .inv .0 ∙ own-more _ _ _ _ _ _ _ _ _ _ _ _ (sym (c .before .before .before .before .before .before .before .before .before .before .before .read-uvarint .ensures) ∙ c .before .before .before .before .before .before .before .before .before .d .given .1) _ _ _ (c .before .before .before .before .before .before .before .before .before .before .before .before .loop-test .taken) (omega (arith, c .before .before .before .before .before .before .before .if1 .left, c .before .before .before .before .before .before .before .before .before .before .before .before .before .loop .inv .1)) (told-taken (c .before .before .before .before .before .take .ensures) (c .before .more .given .1)), omega (arith, c .before .before .before .before .before .before .before .if1 .left, c .before .before .before .before .before .before .before .before .before .before .before .before .before .loop .inv .1), search needs)
 
--- src/lib.rt:130:1
 same-length-4 : tie.Need-same-length-4 Inv-loop μ-loop
 same-length-4 c = search needs
 
--- src/lib.rt:130:1
 returns-4 : tie.Need-returns-4 Inv-loop μ-loop
 returns-4 c = c .before .loop .inv .0 ∙ own-done _ _ _ _ _ _ _ _ _ _ _ (c .loop-test .left)
 

@@ -10,27 +10,21 @@ use Rattle.tree_find.proofs.meets_height.Reads as meets-height-reads
 use Rattle.tree_find.proofs.node.Reads as node-reads
 use Rattle.tree_find.proofs.nothing_seen.Reads as nothing-seen-reads
 
--- src/lib.rt:336:9
 nothing-seen-requires : tie.Need-nothing-seen-requires
 nothing-seen-requires c κs = search needs
 
--- src/lib.rt:337:8
 meets-height-requires : tie.Need-meets-height-requires
 meets-height-requires c κs = search needs
 
--- src/lib.rt:340:9
 node-requires : tie.Need-node-requires
 node-requires c κs = search needs
 
--- src/lib.rt:332:1
 same-length : tie.Need-same-length
 same-length c = search needs
 
--- src/lib.rt:332:1
 returns : tie.Need-returns
 returns c = search-node _ _ _ _ _ _ _ _ (sym (c .before .before .before .before .before .before .meets-height .ensures) ∙ c .before .before .before .before .before .if1 .taken) ∙ (rw (c .before .before .before .before .before .before .before .nothing-seen .ensures) at (c .before .before .node .ensures))
 
--- src/lib.rt:332:1
 returns-2 : tie.Need-returns-2
 returns-2 c = rw (c .before .before .nothing-seen .ensures) (search-none _ _ _ _ _ _ _ _ (sym (c .before .meets-height .ensures) ∙ c .if1 .left))
 

@@ -9,39 +9,30 @@ use Rattle.rings.proofs.holds_height.Reads as holds-height-reads
 use Rattle.tree_find.proofs.list_one.Reads as list-one-reads
 use Rattle.tree_find.proofs.test_one.Reads as test-one-reads
 
--- src/lib.rt:119:8
 holds-height-requires : tie.Need-holds-height-requires
 holds-height-requires c κs = search needs
 
--- src/lib.rt:121:48
 enum-told : tie.Need-enum-told
 enum-told c = search needs
 
--- src/lib.rt:121:30
 list-one-requires : tie.Need-list-one-requires
 list-one-requires c κs = search needs
 
--- src/lib.rt:122:27
 enum-known-task : tie.Need-enum-known-task
 enum-known-task c = search needs
 
--- src/lib.rt:122:45
 test-one-requires : tie.Need-test-one-requires
 test-one-requires c κs = search needs
 
--- src/lib.rt:115:1
 same-length : tie.Need-same-length
 same-length c = search needs
 
--- src/lib.rt:115:1
 returns : tie.Need-returns
 returns c = rw (← (c .before .before .before .before .before .before .before .holds-height .ensures), c .before .before .before .before .before .before .if1 .taken, c .before .before .before .before .enum-told .given .1) (c .before .before .list-one .ensures)
 
--- src/lib.rt:115:1
 returns-2 : tie.Need-returns-2
 returns-2 c = rw (← (c .before .before .before .before .before .holds-height .ensures), c .before .before .before .before .if1 .taken, c .before .before .task .given .1, ← (c .test-one .ensures))
 
--- src/lib.rt:115:1
 returns-3 : tie.Need-returns-3
 returns-3 c = rw (← (c .before .holds-height .ensures), c .if1 .left)
 

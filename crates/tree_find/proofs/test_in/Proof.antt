@@ -10,39 +10,30 @@ use Rattle.tree_find.proofs.test_in.Lts as lts
 use Rattle.answers.proofs.Answer.of.Reads as of-reads
 use Rattle.tree_find.proofs.search.Reads as search-reads
 
--- src/lib.rt:367:62
 slice-aggregate-search : tie.Need-slice-aggregate-search
 slice-aggregate-search c = search needs
 
--- src/lib.rt:367:11
 search-requires : tie.Need-search-requires
 search-requires c κs = search needs
 
--- src/lib.rt:368:23
 enum-known-why : tie.Need-enum-known-why
 enum-known-why c = search needs
 
--- src/lib.rt:369:26
 enum-known-seen : tie.Need-enum-known-seen
 enum-known-seen c = search needs
 
--- src/lib.rt:371:17
 of-requires : tie.Need-of-requires
 of-requires c κs = search needs
 
--- src/lib.rt:371:17
 returns : tie.Need-returns
 returns c = test-on _ _ _ _ _ _ _ _ _ (told (c .before .before .before .before .before .before .search .ensures) (c .before .before .before .seen .given .1)) (c .before .if1 .taken) (c .of .ensures)
 
--- src/lib.rt:373:13
 of-requires-2 : tie.Need-of-requires-2
 of-requires-2 c κs = search needs
 
--- src/lib.rt:362:1
 returns-2 : tie.Need-returns-2
 returns-2 c = sym (test-stopped _ _ _ _ _ _ _ (told (c .before .before .before .before .search .ensures) (c .before .why .given .1)))
 
--- src/lib.rt:362:1
 returns-3 : tie.Need-returns-3
 returns-3 c = test-off _ _ _ _ _ _ _ _ _ (told (c .before .before .before .before .before .before .search .ensures) (c .before .before .before .seen .given .1)) (c .before .if1 .left) (c .of2 .ensures)
 

@@ -16,43 +16,33 @@ use Rattle.rings.proofs.check_ring.Reads as check-ring-reads
 use Rattle.tree.proofs.QuadTree.of_ring.Reads as of-ring-reads
 use Rattle.tree_find.proofs.list_in.Reads as list-in-reads
 
--- src/lib.rt:382:11
 check-ring-requires : tie.Need-check-ring-requires
 check-ring-requires c κs = search needs
 
--- src/lib.rt:383:25
 enum-known-why : tie.Need-enum-known-why
 enum-known-why c = search needs
 
--- src/lib.rt:385:16
 enum-told : tie.Need-enum-told
 enum-told c = search needs
 
--- src/lib.rt:385:16
 is-finite-requires : tie.Need-is-finite-requires
 is-finite-requires c κs = search needs
 
--- src/lib.rt:386:32
 of-ring-requires : tie.Need-of-ring-requires
 of-ring-requires c κs = let a = sound-ring _ _ (sym (c .before .before .before .before .check-ring .ensures) ∙ c .before .before .enum-told .given .1) in (omega (arith, a .enough), omega (arith, a .sizes))
 
--- src/lib.rt:386:17
 list-in-requires : tie.Need-list-in-requires
 list-in-requires c κs = let a = sound-ring _ _ (sym (c .before .before .before .before .before .before .check-ring .ensures) ∙ c .before .before .before .before .enum-told .given .1) in rw (c .before .of-ring .ensures) (omega (arith, a .sizes, a .enough), omega (arith, a .few))
 
--- src/lib.rt:386:17
 same-length : tie.Need-same-length
 same-length c = search needs
 
--- src/lib.rt:386:17
 returns : tie.Need-returns
 returns c = listed-sound _ _ _ _ _ _ (sym (c .before .before .before .before .before .before .before .before .before .check-ring .ensures) ∙ c .before .before .before .before .before .before .before .enum-told .given .1) (sym (c .before .before .before .before .before .before .is-finite .ensures) ∙ c .before .before .before .before .before .if1 .taken) ∙ (rw (c .before .before .before .before .of-ring .ensures) at (c .before .before .list-in .ensures))
 
--- src/lib.rt:379:1
 returns-2 : tie.Need-returns-2
 returns-2 c = listed-faulty _ _ _ _ _ _ _ (sym (c .before .before .before .check-ring .ensures) ∙ c .before .why .given .1)
 
--- src/lib.rt:379:1
 returns-3 : tie.Need-returns-3
 returns-3 c = listed-unfit _ _ _ _ _ _ (sym (c .before .before .before .before .check-ring .ensures) ∙ c .before .before .enum-told .given .1) (sym (c .before .is-finite .ensures) ∙ c .if1 .left)
 

@@ -16,43 +16,33 @@ use Rattle.rings.proofs.check_ring.Reads as check-ring-reads
 use Rattle.tree.proofs.QuadTree.of_ring.Reads as of-ring-reads
 use Rattle.tree_find.proofs.test_in.Reads as test-in-reads
 
--- src/lib.rt:397:11
 check-ring-requires : tie.Need-check-ring-requires
 check-ring-requires c κs = search needs
 
--- src/lib.rt:398:25
 enum-known-why : tie.Need-enum-known-why
 enum-known-why c = search needs
 
--- src/lib.rt:400:16
 enum-told : tie.Need-enum-told
 enum-told c = search needs
 
--- src/lib.rt:400:16
 is-finite-requires : tie.Need-is-finite-requires
 is-finite-requires c κs = search needs
 
--- src/lib.rt:400:41
 is-finite-requires-2 : tie.Need-is-finite-requires-2
 is-finite-requires-2 c κs = search needs
 
--- src/lib.rt:401:32
 of-ring-requires : tie.Need-of-ring-requires
 of-ring-requires c κs = let a = sound-ring _ _ (sym (c .before .before .before .before .before .check-ring .ensures) ∙ c .before .before .before .enum-told .given .1) in (omega (arith, a .enough), omega (arith, a .sizes))
 
--- src/lib.rt:401:17
 test-in-requires : tie.Need-test-in-requires
 test-in-requires c κs = let a = sound-ring _ _ (sym (c .before .before .before .before .before .before .check-ring .ensures) ∙ c .before .before .before .before .enum-told .given .1) in rw (c .of-ring .ensures) (omega (arith, a .sizes, a .enough), omega (arith, a .few))
 
--- src/lib.rt:401:17
 returns : tie.Need-returns
 returns c = (rw (c .before .of-ring .ensures) at (c .test-in .ensures)) ∙ tested-sound _ _ _ _ _ _ (sym (c .before .before .before .before .before .before .before .check-ring .ensures) ∙ c .before .before .before .before .before .enum-told .given .1) (sym (ap₂ (λ (a b : Bool). a && b) (c .before .before .before .before .is-finite .ensures) (c .before .before .before .is-finite2 .ensures)) ∙ c .before .before .if1 .taken)
 
--- src/lib.rt:394:1
 returns-2 : tie.Need-returns-2
 returns-2 c = tested-faulty _ _ _ _ _ _ _ (sym (c .before .before .before .check-ring .ensures) ∙ c .before .why .given .1)
 
--- src/lib.rt:394:1
 returns-3 : tie.Need-returns-3
 returns-3 c = tested-unfit _ _ _ _ _ _ (sym (c .before .before .before .before .before .check-ring .ensures) ∙ c .before .before .before .enum-told .given .1) (sym (ap₂ (λ (a b : Bool). a && b) (c .before .before .is-finite .ensures) (c .before .is-finite2 .ensures)) ∙ c .if1 .left)
 

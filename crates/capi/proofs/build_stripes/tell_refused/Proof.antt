@@ -1,7 +1,4 @@
-use mathlib.Core.Path.{sym, ap, _∙_}
-use Prim.Native.Nat.{ℕ}
-use lib.Dec.{leb}
-use borrow.Author.Tests.{le-leb, lt-leb}
+use mathlib.Core.Path.{sym, _∙_}
 use Rattle.capi.proofs.Striped.{refused-zero, refused-kept}
 use borrow.Author.Needs.{needs}
 use Rattle.capi.proofs.build_stripes.tell_refused.Statement.{statement}
@@ -11,7 +8,7 @@ returns : tie.Need-returns
 returns c =
     let a = c .before .before .before .before .before .before .before .before .before .before .before .before .before .before .args in
     refused-zero (a .why) (a .span .now) (a .stats .now)
-    (ap (leb 8) (sym (c .before .before .before .before .before .before .before .before .before .before .before .number .ensures)) ∙ le-leb _ _ (c .before .before .before .before .before .before .before .before .before .before .if1 .taken))
+    (sym (c .before .before .before .before .before .before .before .before .before .before .before .zeroes-rooms .ensures) ∙ c .before .before .before .before .before .before .before .before .before .before .if1 .taken)
     (c .tell-refusal .ensures)
     (c .before .before .before .before .before .before .before .before .zero-fill-f64 .ensures)
     (c .before .before .before .before .zero-fill-u64 .ensures)
@@ -20,7 +17,7 @@ returns-2 : tie.Need-returns-2
 returns-2 c =
     let a = c .before .before .before .before .before .before .args in
     refused-kept (a .why) (a .span .now) (a .stats .now)
-    (ap (leb 8) (sym (c .before .before .before .number .ensures)) ∙ lt-leb _ _ (c .before .before .if1 .left))
+    (sym (c .before .before .before .zeroes-rooms .ensures) ∙ c .before .before .if1 .left)
     (c .tell-refusal2 .ensures)
 
 pub tell-refused-spec : {M : Type 1} → statement M

@@ -8,7 +8,6 @@ use borrow.Author.Needs.{needs}
 use Rattle.replay.proofs.numbers.float_of.Statement.{statement}
 use Rattle.replay.proofs.numbers.float_of.Tie as tie
 
--- src/numbers.rt:16:5
 float-from-bits-result : tie.Need-float-from-bits-result
 float-from-bits-result c =
     subst (λ (b : Bool). T (not b)) (sym (nanBits-above binary64 (c .before .args .bits) ∙ le-ltb _ _ (c .if1 .left))) tt

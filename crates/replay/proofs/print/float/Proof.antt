@@ -6,7 +6,6 @@ use borrow.Author.Needs.{needs}
 use Rattle.replay.proofs.print.float.Statement.{statement}
 use Rattle.replay.proofs.print.float.Tie as tie
 
--- src/print.rt:30:12
 float-to-bits-number : tie.Need-float-to-bits-number
 float-to-bits-number c = subst (λ (b : Bool). T (not b)) (sym (no-nan _ (c .if1 .left))) tt
 

@@ -9,27 +9,21 @@ use Rattle.tree.proofs.QuadTree.of_ring.Lts as lts
 use Rattle.tree.proofs.greatest_of.Reads as greatest-of-reads
 use Rattle.tree.proofs.least_of.Reads as least-of-reads
 
--- src/lib.rt:77:20
 sub-last : tie.Need-sub-last
 sub-last c = search needs
 
--- src/lib.rt:79:16
 least-of-requires : tie.Need-least-of-requires
 least-of-requires c κs = search needs
 
--- src/lib.rt:80:16
 least-of-requires-2 : tie.Need-least-of-requires-2
 least-of-requires-2 c κs = search needs
 
--- src/lib.rt:83:16
 greatest-of-requires : tie.Need-greatest-of-requires
 greatest-of-requires c κs = search needs
 
--- src/lib.rt:84:16
 greatest-of-requires-2 : tie.Need-greatest-of-requires-2
 greatest-of-requires-2 c κs = search needs
 
--- src/lib.rt:73:5
 returns : tie.Need-returns
 unfolding ringBox
 returns c = simp (c .greatest-of2 .ensures, c .before .greatest-of .ensures, c .before .before .least-of2 .ensures, c .before .before .before .least-of .ensures, add-zero)
