@@ -5,3 +5,4 @@ pub mod Middle
 pub mod Lines
 pub mod Segments
 pub mod Samples
+pub mod Unique

@@ -1,3 +1,4 @@
 pub mod Telling
 pub mod Filled
 pub mod Striped
+pub mod Unique

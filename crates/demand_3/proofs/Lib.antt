@@ -2,3 +2,4 @@ pub mod Lists
 pub mod Choice
 pub mod Entries
 pub mod Demand3
+pub mod Unique

@@ -4,3 +4,4 @@ pub mod Exact
 pub mod Fields
 pub mod Results
 pub mod Meaning
+pub mod Unique

@@ -1,3 +1,4 @@
 pub mod Rings
 pub mod Queries
 pub mod Ready
+pub mod Unique

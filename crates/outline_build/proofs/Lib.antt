@@ -2,3 +2,4 @@ pub mod Roomy
 pub mod Rings
 pub mod Outcomes
 pub mod Told
+pub mod Unique

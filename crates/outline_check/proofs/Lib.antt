@@ -1,3 +1,4 @@
 pub mod Rules
 pub mod Starts
 pub mod Sound
+pub mod Unique

@@ -1,2 +1,3 @@
 pub mod Pools
 pub mod Steps
+pub mod Unique

@@ -3,3 +3,4 @@ pub mod Extremes
 pub mod Among
 pub mod Boxes
 pub mod Read
+pub mod Unique

@@ -3,3 +3,4 @@ pub mod Rest
 pub mod Quotients
 pub mod Heights
 pub mod Samples
+pub mod Unique

@@ -5,3 +5,4 @@ pub mod RingTest
 pub mod Listing
 pub mod Ends
 pub mod Coordinates
+pub mod Unique

@@ -5,3 +5,4 @@ pub mod Fill
 pub mod UpTo
 pub mod Count
 pub mod Pour
+pub mod Unique

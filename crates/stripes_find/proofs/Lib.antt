@@ -1,3 +1,4 @@
 pub mod Parts
 pub mod Reading
 pub mod Pouring
+pub mod Unique

@@ -1,2 +1,3 @@
 pub mod Mono
 pub mod Samples
+pub mod Unique

@@ -1,3 +1,4 @@
 pub mod Raised
 pub mod Compare
 pub mod Area
+pub mod Unique

@@ -5,3 +5,4 @@ pub mod Writing
 pub mod Answers
 pub mod Back
 pub mod Samples
+pub mod Unique

@@ -8,3 +8,4 @@ pub mod Double
 pub mod Ceilings
 pub mod Joined
 pub mod Samples
+pub mod Unique

@@ -1,1 +1,0 @@
-// No code: that each promise leaves one answer and one content of lent room stands in proofs/.
