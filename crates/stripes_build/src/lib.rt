@@ -1,6 +1,7 @@
 // Builds a ring's stripes in lent room.
 use answers::Refusal;
 use rings::Checked;
+use room::wide;
 use room::zero_fill_u32;
 use stripes_count::stripe_count;
 use stripes_index::greatest_y;
@@ -9,7 +10,6 @@ use stripes_index::least_y;
 use stripes_index::low_end;
 use stripes_index::prepare;
 use stripes_place::stripe_of;
-use room::wide;
 ghost use mathlib.Core.Path.{_≡_};
 ghost use Prim.Native.Nat.{_+_, _*_, _<_, _≤_};
 ghost use lib.ListN.{length, replicate};

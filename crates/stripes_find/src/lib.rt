@@ -2,9 +2,9 @@
 use answers::Refusal;
 use rings::Checked;
 use rings::holds_height;
+use room::wide;
 use room::zero_fill_u32;
 use stripes_place::stripe_of;
-use room::wide;
 ghost use mathlib.Core.Path.{_≡_};
 ghost use Prim.Native.Nat.{_+_, _*_, _/_, _<_, _≤_};
 ghost use lib.ListN.{length, replicate};

@@ -2,8 +2,8 @@
 // stripe's part of the list starts. The `pub` functions are for the crates above, which have checked
 // the ring.
 use rings::coordinate;
-use stripes_place::stripe_of;
 use room::wide;
+use stripes_place::stripe_of;
 ghost use mathlib.Core.Path.{_≡_};
 ghost use Prim.Native.Nat.{ℕ, _+_, _*_, _<_, _≤_, max};
 ghost use lib.ListN.{length, replicate};

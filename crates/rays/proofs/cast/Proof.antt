@@ -17,7 +17,7 @@ returns c =
     let v = start .args in
     let f = start .fits in
     let e : c .moved-once .result ≡ raycastOf (ends (v .ax) (v .ay) (v .bx) (v .by)) (at (v .px) (v .py)) =
-        simp (toZ-ofZ (f .ax), toZ-ofZ (f .ay), toZ-ofZ (f .bx), toZ-ofZ (f .by)) at (c .moved-once .ensures) in
+    simp (toZ-ofZ (f .ax), toZ-ofZ (f .ay), toZ-ofZ (f .bx), toZ-ofZ (f .by)) at (c .moved-once .ensures) in
     (answers (ends (v .ax) (v .ay) (v .bx) (v .by)) (at (v .px) (v .py)) (c .moved-once .result) (near (v .ay) (f .ay .sfits)) (near (v .by) (f .by .sfits)) (subst T (sym (start .good .1 .1 .1 .1 .1 .0 .1)) tt) e, e)
 
 pub cast-spec : {M : Type 1} → statement M
