@@ -6,3 +6,4 @@ pub mod Lines
 pub mod Segments
 pub mod Samples
 pub mod Unique
+pub mod Meets
