@@ -1,10 +1,14 @@
--- The starred cases of 01's sample sheet hold, by computing. Where the edge rule is left open, the place is on no segment of the exterior.
+-- The starred cases of 01's sample sheet hold, by computing. Where the edge rule is left open, the place is on no segment of the exterior; where a room is,
+-- only its length counts.
 use mathlib.Core.Path.{refl}
+use borrow.Author.Tests.{le-ltb}
 use lib.Ieee.{ofInt, ofBits, toBits, le, lt, eq, ne, sub, mul, div, isNan}
 use Rattle.floats.specs.Next.{nextUp}
 use Rattle.room.specs.Numbers.{keep, upTo}
+use Rattle.room.specs.Room.{pad, roomOf}
 use Rattle.rings.specs.Ring.{meeting}
-use Rattle.rings.specs.Checks.{allWithin}
+use Rattle.rings.specs.Checks.{allWithin, ringChecked}
+use Rattle.rings.specs.Listing.{listedIn, scannedBy}
 use Rattle.rings.specs.RingTest.{testFrom}
 use Rattle.whole.specs.Round.{roundTo}
 use Rattle.grid.specs.Grid.{cross, isOn, isFlip}
@@ -12,8 +16,9 @@ use Rattle.rays.specs.Raycast.{firstSteps, lastSteps, raycastOf}
 use Rattle.stripes_place.specs.Stripe.{stripeOf}
 use Rattle.whole.specs.Floor.{floorWithin}
 use Rattle.varint.specs.Leb128.{decode, size, encode, encodeIn}
-use Rattle.varint.specs.Uvarint.{readUvarint}
-use Rattle.tree.specs.Tree.{treeOf, grown, differences, ownBytes, packed}
+use Rattle.varint.specs.Uvarint.{readUvarint, appendUvarint}
+use Rattle.tree.specs.Tree.{treeOf, grown, differences, ownBytes, packed, nodes}
+use Rattle.tree_build.specs.Build.{packedIn, fromThreshold, treeBuiltBy}
 use Rattle.outline_check.specs.Outline.{startOf, ringOf}
 use Rattle.outline_check.specs.Rules.{forFrom, shapeWith, scaleChecked, outlineWith}
 use Rattle.outline_record.specs.Record.{leastZ, greatestZ, boxNumbers, boxesTo}
@@ -23,7 +28,7 @@ use Rattle.outline_ask.specs.Inside.{holesFrom, throughRings, insideOf}
 use Rattle.sheet.specs.Sheet.{SampleSheet}
 
 pub sample-sheet : SampleSheet
-unfolding insideOf throughRings holesFrom scaledQuery ringAsked boxesTo boxNumbers leastZ greatestZ outlineWith shapeWith scaleChecked forFrom startOf ringOf packed ownBytes differences treeOf grown stripeOf floorWithin mul meeting upTo keep allWithin testFrom cross isOn isFlip roundTo raycastOf firstSteps lastSteps ne sub div ofInt le lt eq encode encodeIn readUvarint decode size nextUp ofBits toBits isNan
+unfolding scannedBy listedIn roomOf pad ringChecked treeBuiltBy fromThreshold packedIn nodes appendUvarint insideOf throughRings holesFrom scaledQuery ringAsked boxesTo boxNumbers leastZ greatestZ outlineWith shapeWith scaleChecked forFrom startOf ringOf packed ownBytes differences treeOf grown stripeOf floorWithin mul meeting upTo keep allWithin testFrom cross isOn isFlip roundTo raycastOf firstSteps lastSteps ne sub div ofInt le lt eq encode encodeIn readUvarint decode size nextUp ofBits toBits isNan
 sample-sheet =
     record {
       holds-5-5 = λ edge. refl;
@@ -38,11 +43,11 @@ sample-sheet =
       snapped-allowed = refl;
       snaps-away = refl;
       snapped-out = λ edge. refl;
-      list-at-0 = refl;
-      list-at-10 = refl;
-      list-below = refl;
-      packs = refl;
-      three-hundred = refl;
+      list-at-0 = λ room e. rw e;
+      list-at-10 = λ room e. rw e;
+      list-below = λ room e. rw e;
+      packs = λ threshold reached bytes work e f. rw (le-ltb 4 threshold reached, e, f);
+      three-hundred = λ room e. rw e;
       eighty-nought = refl;
       stripe-of-5 = refl;
       stripe-of-10 = refl;

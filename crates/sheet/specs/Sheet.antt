@@ -1,20 +1,24 @@
--- 01, "Sample sheet": the cases marked *, one field a case, each as an equation of the public definitions. `proofs/Table.antt` proves them all.
+-- 01, "Sample sheet": the cases marked *, one field a case, each an equation of what a call promises: its answer, and what it leaves in the rooms that it is
+-- lent, whatever stood there. `proofs/Table.antt` proves them all.
 use mathlib.Core.Path.{_≡_}
 use mathlib.Core.List.{List, [], _∷_, _++_}
-use Prim.Native.Nat.{ℕ}
+use Prim.Native.Nat.{ℕ, _≤_}
+use lib.ListN.{length, replicate}
 use lib.IntN.{ℤ, pos, negsuc}
 use mathlib.Core.Bool.{Bool, true, false}
 use lib.Ieee.{Float, binary64, ofInt, ofBits, toBits}
 use Rattle.floats.specs.Next.{nextUp}
-use Rattle.varint.specs.Leb128.{encode}
-use Rattle.varint.specs.Uvarint.{readUvarint}
+use Rattle.varint.specs.Uvarint.{readUvarint, appendUvarint}
+use Rattle.varint.specs.declared.AppendUvarint.the-variants.{Appended}
 use Rattle.varint.specs.declared.ReadUvarint.the-variants.{Value}
 use Rattle.boxes.specs.declared.Point.{Point}
-use Rattle.rings.specs.Ring.{wide, meeting}
+use Rattle.rings.specs.declared.Listed.the-variants.{Count}
+use Rattle.rings.specs.Listing.{scanned}
 use Rattle.answers.specs.declared.Answer.{Answer}
 use Rattle.answers.specs.declared.Answer.the-variants.{Yes, No}
 use Rattle.stripes_place.specs.Stripe.{stripeOf}
-use Rattle.tree.specs.Tree.{treeOf, packed}
+use Rattle.tree_build.specs.declared.TreeBuilt.the-variants.{Packed}
+use Rattle.tree_build.specs.Build.{treeBuilt}
 use Rattle.outline_check.specs.declared.Outline.{Outline}
 use Rattle.outline_check.specs.declared.RaycastMode.{RaycastMode}
 use Rattle.outline_check.specs.declared.RaycastMode.the-variants.{Float as FloatMode, Integer as IntegerMode}
@@ -78,12 +82,14 @@ pub record SampleSheet : Type 0 where
   pub snaps-away : scaledQuery (scaleOne IntegerMode) leftOf ≡ Grid (negsuc 0) (pos 5)
   pub snapped-out : (edge : Bool) → asked IntegerMode one S leftOf edge ≡ No
   -- "Lists in S: y 0 gives 0,1,3; y 10 gives 1,2,3; y -1 none."
-  pub list-at-0 : meeting (wide S) 5 (whole (pos 0)) ≡ 0 ∷ 1 ∷ 3 ∷ []
-  pub list-at-10 : meeting (wide S) 5 (whole (pos 10)) ≡ 1 ∷ 2 ∷ 3 ∷ []
-  pub list-below : meeting (wide S) 5 (whole (negsuc 0)) ≡ []
-  -- "S packs to 04 00 01 01 01 00." "300 is AC 02." "80 00 reads 0."
-  pub packs : packed (treeOf (wide S) 5) ≡ 0x04 ∷ 0x00 ∷ 0x01 ∷ 0x01 ∷ 0x01 ∷ 0x00 ∷ []
-  pub three-hundred : encode 300 ≡ 0xAC ∷ 0x02 ∷ []
+  pub list-at-0 : (room : List ℕ) → length room ≡ 4 → scanned S 5 (whole (pos 0)) room ≡ (Count 3, 0 ∷ 1 ∷ 3 ∷ 0 ∷ [])
+  pub list-at-10 : (room : List ℕ) → length room ≡ 4 → scanned S 5 (whole (pos 10)) room ≡ (Count 3, 1 ∷ 2 ∷ 3 ∷ 0 ∷ [])
+  pub list-below : (room : List ℕ) → length room ≡ 4 → scanned S 5 (whole (negsuc 0)) room ≡ (Count 0, 0 ∷ 0 ∷ 0 ∷ 0 ∷ [])
+  -- "S packs to 04 00 01 01 01 00.": built from any threshold that its four segments reach, in the ten work numbers that one node and four segments call for
+  pub packs : (threshold : ℕ) → threshold ≤ 4 → (bytes work : List ℕ) → length bytes ≡ 8 → length work ≡ 10
+      → treeBuilt S 5 threshold bytes work ≡ (Packed 6, 0x04 ∷ 0x00 ∷ 0x01 ∷ 0x01 ∷ 0x01 ∷ 0x00 ∷ 0 ∷ 0 ∷ [], replicate 10 0)
+  -- "300 is AC 02." "80 00 reads 0."
+  pub three-hundred : (room : List ℕ) → length room ≡ 3 → appendUvarint room 0 300 ≡ (Appended 2, 0xAC ∷ 0x02 ∷ 0 ∷ [])
   pub eighty-nought : readUvarint 64 (0x80 ∷ 0x00 ∷ []) 0 ≡ Value 0 2
   -- "Stripe of 5, 10 with least 0, height 10, 32 stripes: 16, 31."
   pub stripe-of-5 : stripeOf (whole (pos 5)) (whole (pos 0)) (whole (pos 10)) 32 ≡ 16

@@ -17,6 +17,8 @@ pub fn count(x: usize) {
 pub fn refused(r: Refusal) {
     text(b"refusal ");
     number(r.number() as u64);
+    text(b", place ");
+    count(r.place());
 }
 
 fn wide(b: u8) -> u64 {
