@@ -2,7 +2,7 @@
 use mathlib.Core.Path.{_≡_, refl, sym, ap, _∙_}
 use mathlib.Core.Bool.{Bool, true}
 use mathlib.Core.List.{List, _++_}
-use Prim.Native.Nat.{ℕ, _-_, _*_}
+use Prim.Native.Nat.{ℕ, _-_, _*_, _<_}
 use lib.ListN.{length, take, replicate}
 use lib.IntN.{ℤ, pos}
 use lib.Ieee.{Float}
@@ -12,7 +12,7 @@ use Rattle.boxes.specs.declared.Point.{Point}
 use Rattle.room.specs.Numbers.{count}
 use Rattle.rings.specs.declared.Checked.the-variants.{Sound}
 use Rattle.rings.specs.declared.Listed.the-variants.{Count, Unlisted}
-use Rattle.rings.specs.Ring.{wide, meeting}
+use Rattle.rings.specs.Ring.{wide, segments, meeting}
 use Rattle.rings.specs.I32s.{I32s}
 use Rattle.rings.specs.Checks.{ringChecked}
 use Rattle.rings.specs.Listing.{scanned}
@@ -29,26 +29,28 @@ use Rattle.tree.proofs.Demand.{tree-found, tree-lists}
 use Rattle.tree_find.specs.declared.TreeListed.the-variants.{TreeFound, TreeUnlisted}
 use Rattle.tree_find.specs.Find.{treeListed, treeTested}
 use Rattle.tree_find.proofs.Demand.{lists-all}
-use Rattle.tree_build.proofs.Demand.{built-is, used, tests-built-as-scan}
+use Rattle.tree_build.proofs.Demand.{builds, built-is, used, tests-built-as-scan}
 use Rattle.outline_check.specs.declared.Outline.{Outline}
-use Rattle.outline_check.specs.Outline.{sizeAt, ringOf}
+use Rattle.outline_check.specs.Outline.{rings, sizeAt, ringOf}
 use Rattle.outline_record.specs.Record.{boxesOf}
 use Rattle.outline_record.specs.Made.{padZ}
 use Rattle.outline_record.proofs.Read.{made-record}
-use Rattle.outline_ring.specs.RingIndex.{lent}
+use Rattle.outline_ring.specs.RingIndex.{lent, hasStripes, hasTree}
 use Rattle.outline_ask.specs.Inside.{insideOf}
 use Rattle.outline_agree.specs.Plain.{plainInside}
 use Rattle.outline_agree.specs.Own.{OwnIndexes}
 use Rattle.outline_agree.proofs.Lists.{each-once, no-other, scan-lists}
 use Rattle.outline_agree.proofs.Demand.{demand-3 as outline-demand, one-answer}
 use Rattle.outline_index.specs.declared.BuildOptions.{BuildOptions}
-use Rattle.outline_read.proofs.Left.{left-own}
+use Rattle.outline_index.specs.Parts.{hasStripes as getsStripes, hasTree as getsTree}
+use Rattle.outline_read.proofs.Left.{left-own, left-stripes, left-tree}
 use Rattle.outline_read.proofs.Demand.{built-answers, none-own, zeros-own}
 use Rattle.demand_3.specs.Words.{listing, inNodeOrder}
 use Rattle.demand_3.specs.Demand3.{Demand3, StripesOf, TreeOf, RecordOf, IndexesOf}
 use Rattle.demand_3.proofs.Lists.{meeting-rises, by-scan, by-stripes, by-tree}
 use Rattle.demand_3.proofs.Choice.{own-built}
 use Rattle.demand_3.proofs.Entries.{stats-entries, row-entries}
+use Rattle.demand_3.proofs.Gets.{stripes-got, record-got, indexes-got}
 
 -- of a ring that passed its checks the scan's test is what the scan's call answers
 scan-answers : (ring : List ℤ) (points : ℕ) → ringChecked ring points ≡ Sound → (p : Point) (edge : Bool) → scanTest (wide ring) points p edge ≡ scanTested ring points p edge
@@ -113,6 +115,14 @@ built-inside : (outline : Outline) (sizes : List ℕ) (coords : List ℤ) → I3
 built-inside outline sizes coords nums room (boxes, m, made) options t sp s l b (table, spans, stripes, list, bytes, work, n, w, e) p edge =
     built-answers outline sizes coords nums boxes room m made p edge options table spans stripes list bytes work n t sp s l b w e
 
+each : (sizes : List ℕ) (coords : List ℤ) (options : BuildOptions) (t : List ℕ) (sp : List Float) (s l b : List ℕ)
+    → IndexesOf sizes coords options t sp s l b → (k : ℕ) → k < rings sizes
+    → (hasStripes t k ≡ getsStripes options (segments (sizeAt sizes k))) × (hasTree t k ≡ getsTree options (segments (sizeAt sizes k)))
+each sizes coords options t sp s l b (table, spans, stripes, list, bytes, work, n, w, e) k below = (
+  left-stripes sizes coords options table spans stripes list bytes work n t sp s l b w e k below,
+  left-tree sizes coords options table spans stripes list bytes work n t sp s l b w e k below,
+)
+
 pub demand-3 : Demand3
 demand-3 =
     record {
@@ -133,6 +143,14 @@ demand-3 =
       no-index = none-own;
       zero-table = zeros-own;
       built-inside = built-inside;
+      gets-stripes = stripes-got;
+      gets-tree =
+          λ ring points threshold bytes work sound reached roomy wide.
+          (_, _, _, builds ring points threshold bytes work sound reached wide roomy);
+      gets-record = record-got;
+      gets-indexes =
+          λ sizes coords options table spans stripes list bytes work sound room. indexes-got sizes coords options table spans stripes list bytes work room sound;
+      each-ring = each;
       entries =
           λ ring points least height stats s l o. stats-entries ring points (o .0) (o .1) (o .2) least height stats s l (o .3);
       built-entries =

@@ -1,5 +1,6 @@
 pub mod Lists
 pub mod Choice
 pub mod Entries
+pub mod Gets
 pub mod Demand3
 pub mod Unique

@@ -2,12 +2,12 @@
 -- both edge rules and any choice of index per ring built from that ring, the inside answer is one and the same. One field a statement, over the definitions
 -- that the calls promise. `proofs/Demand3.antt` proves them all.
 --
--- Nothing is defined by an index: `meeting` and `plainInside` know only segments. `wide ring` is the ring's numbers as floats. `I32s` says that numbers are i32; any that are lent are (`lent_numbers`).
+-- Nothing is defined by an index: `meeting` and `plainInside` know only segments. `wide ring` is the ring's numbers as floats. `I32s` says that numbers are i32; any that are lent are (`lent_numbers` in crate `outline_plain` shows it).
 use mathlib.Core.Path.{_≡_}
 use mathlib.Core.Bool.{Bool, true}
 use mathlib.Core.List.{List, [], _++_}
 use Prim.Native.Nat.{ℕ, _*_, _≤_, _<_}
-use lib.ListN.{take, replicate}
+use lib.ListN.{length, take, replicate}
 use lib.IntN.{ℤ}
 use lib.Ieee.{Float}
 use lib.Ieee.Scale.{finite}
@@ -21,6 +21,7 @@ use Rattle.rings.specs.I32s.{I32s}
 use Rattle.rings.specs.Checks.{ringChecked}
 use Rattle.rings.specs.Listing.{scanned}
 use Rattle.cast_test.specs.Test.{scanTested}
+use Rattle.stripes_count.specs.Count.{stripeCount}
 use Rattle.stripes_index.specs.Inner.States.{sumTo}
 use Rattle.stripes_build.specs.declared.StripesStats.{StripesStats}
 use Rattle.stripes_build.specs.declared.StripesBuilt.the-variants.{Striped}
@@ -28,12 +29,14 @@ use Rattle.stripes_build.specs.Build.{stripesBuilt}
 use Rattle.stripes_find.specs.declared.StripesListed.the-variants.{StripesFound, StripesUnlisted}
 use Rattle.stripes_find.specs.Listing.{stripesListed}
 use Rattle.stripes_test.specs.Test.{stripesTested}
+use Rattle.tree.specs.Tree.{treeOf, packed, workNumbers}
 use Rattle.tree_build.specs.declared.TreeBuilt.the-variants.{Packed}
 use Rattle.tree_build.specs.Build.{treeBuilt}
 use Rattle.tree_find.specs.declared.TreeListed.the-variants.{TreeFound, TreeUnlisted}
 use Rattle.tree_find.specs.Find.{treeListed, treeTested}
 use Rattle.outline_check.specs.declared.Outline.{Outline}
 use Rattle.outline_check.specs.Outline.{rings, sizeAt, ringOf}
+use Rattle.outline_check.specs.Rules.{shapeChecked, outlineChecked}
 use Rattle.outline_record.specs.declared.Made.the-variants.{Rings}
 use Rattle.outline_record.specs.Record.{boxesOf}
 use Rattle.outline_record.specs.Made.{boxesMade}
@@ -42,11 +45,12 @@ use Rattle.outline_ask.specs.Inside.{insideOf}
 use Rattle.outline_agree.specs.Plain.{plainInside}
 use Rattle.outline_agree.specs.Own.{OwnIndexes}
 use Rattle.outline_index.specs.declared.BuildOptions.{BuildOptions}
+use Rattle.outline_index.specs.Parts.{hasStripes as getsStripes, hasTree as getsTree}
 use Rattle.outline_build.specs.declared.Built.the-variants.{Indexed}
 use Rattle.outline_build.specs.declared.YStripes.the-variants.{SomeStripes}
 use Rattle.outline_build.specs.Indexes.{indexesBuilt}
 use Rattle.outline_build.specs.Statistics.{statsAt}
-use Rattle.demand_3.specs.Words.{Rises, listing, inNodeOrder, stripesCrossed}
+use Rattle.demand_3.specs.Words.{Rises, listing, inNodeOrder, stripesCrossed, stripesCalled, entriesCalled, bytesCalled}
 
 -- `build_stripes` made this index of the ring: least y, height and statistics, and what stands in the rooms s and l. It was lent some rooms, and any threshold.
 abbrev pub StripesOf : List ℤ → ℕ → Float → Float → StripesStats → List ℕ → List ℕ → Type 0
@@ -77,6 +81,20 @@ abbrev pub IndexesOf : List ℕ → List ℤ → BuildOptions → List ℕ → L
 IndexesOf sizes coords options t sp s l b =
     (table : List ℕ) × (spans : List Float) × (stripes : List ℕ) × (list : List ℕ) × (bytes : List ℕ) × (work : List ℕ) × (n : ℕ) × (w : List ℕ)
     × (indexesBuilt sizes coords options table spans stripes list bytes work ≡ (Indexed n, t, sp, s, l, b, w))
+
+-- The rooms are as large as the rules call for, to index an outline by these options: ten numbers and two floats a ring; the stripes, lists and bytes of all
+-- rings; work room for the ring that calls for most of it; and no ring calls for more than 65,536 stripes. `sumTo f n` is f 0 + .. + f (n - 1).
+pub record RoomFor (sizes : List ℕ) (coords : List ℤ) (options : BuildOptions) (table : List ℕ) (spans : List Float) (stripes list bytes work : List ℕ)
+    : Type 0 where
+  pub rows : 10 * rings sizes ≤ length table
+  pub heights : 2 * rings sizes ≤ length spans
+  pub pairs : sumTo (λ k. stripesCalled options (wide (ringOf sizes coords k)) (sizeAt sizes k)) (rings sizes) ≤ length stripes
+  pub numbers : sumTo (λ k. entriesCalled options (wide (ringOf sizes coords k)) (sizeAt sizes k)) (rings sizes) ≤ length list
+  pub trees : sumTo (λ k. bytesCalled options (wide (ringOf sizes coords k)) (sizeAt sizes k)) (rings sizes) ≤ length bytes
+  pub few : (k : ℕ) → k < rings sizes → getsStripes options (segments (sizeAt sizes k)) ≡ true
+      → stripeCount (wide (ringOf sizes coords k)) (segments (sizeAt sizes k)) ≤ 65536
+  pub working : (k : ℕ) → k < rings sizes → getsTree options (segments (sizeAt sizes k)) ≡ true
+      → workNumbers (wide (ringOf sizes coords k)) (sizeAt sizes k) ≤ length work
 
 pub record Demand3 : Type 0 where
   -- ---- 1. `meeting`: each segment of the ring whose own closed height range holds y stands in it once, no other does, and the numbers rise
@@ -125,8 +143,27 @@ pub record Demand3 : Type 0 where
   pub built-inside : (outline : Outline) (sizes : List ℕ) (coords : List ℤ) → I32s coords → (room : List ℤ) → RecordOf outline sizes coords room
       → (options : BuildOptions) (t : List ℕ) (sp : List Float) (s l b : List ℕ) → IndexesOf sizes coords options t sp s l b
       → (p : Point) (edge : Bool) → insideOf outline sizes coords room (lent t sp s l b) p edge ≡ plainInside outline sizes coords p edge
+  -- ---- 8. None of this speaks of nothing. Every ring that passes its checks and reaches the threshold gets its stripes and its tree, where the room is as
+  -- large as the rules call for, and every outline that passes the rules its record and its indexes, each ring those that are asked for.
+  pub gets-stripes : (ring : List ℤ) (points threshold : ℕ) (stripes list : List ℕ) → ringChecked ring points ≡ Sound → threshold ≤ segments points
+      → stripeCount (wide ring) (segments points) ≤ 65536 → stripeCount (wide ring) (segments points) * 2 ≤ length stripes
+      → sumTo (stripesCrossed (wide ring) (segments points)) (segments points) ≤ length list
+      → (least : Float) × (height : Float) × (stats : StripesStats) × (s : List ℕ) × (l : List ℕ)
+      × (stripesBuilt ring points threshold stripes list ≡ (Striped least height stats, s, l))
+  pub gets-tree : (ring : List ℤ) (points threshold : ℕ) (bytes work : List ℕ) → ringChecked ring points ≡ Sound → threshold ≤ segments points
+      → length (packed (treeOf (wide ring) points)) ≤ length bytes → workNumbers (wide ring) points ≤ length work
+      → (n : ℕ) × (b : List ℕ) × (w : List ℕ) × (treeBuilt ring points threshold bytes work ≡ (Packed n, b, w))
+  pub gets-record : (outline : Outline) (sizes : List ℕ) (coords boxes : List ℤ) → outlineChecked (outline .scale) (outline .mode) sizes coords ≡ Sound
+      → 4 * rings sizes ≤ length boxes
+      → (room : List ℤ) × (boxesMade (outline .scale) (outline .mode) sizes coords boxes ≡ (Rings (rings sizes), room))
+  pub gets-indexes : (sizes : List ℕ) (coords : List ℤ) (options : BuildOptions) (table : List ℕ) (spans : List Float) (stripes list bytes work : List ℕ)
+      → shapeChecked sizes coords ≡ Sound → RoomFor sizes coords options table spans stripes list bytes work
+      → (t : List ℕ) × (sp : List Float) × (s : List ℕ) × (l : List ℕ) × (b : List ℕ) × (w : List ℕ)
+      × (indexesBuilt sizes coords options table spans stripes list bytes work ≡ (Indexed (rings sizes), t, sp, s, l, b, w))
+  pub each-ring : (sizes : List ℕ) (coords : List ℤ) (options : BuildOptions) (t : List ℕ) (sp : List Float) (s l b : List ℕ)
+      → IndexesOf sizes coords options t sp s l b → (k : ℕ) → k < rings sizes
+      → (hasStripes t k ≡ getsStripes options (segments (sizeAt sizes k))) × (hasTree t k ≡ getsTree options (segments (sizeAt sizes k)))
   -- ---- Statistics: "Entries in all equals the sum, over segments, of stripes crossed", of one ring's stripes and of each ring of a built outline.
-  -- `sumTo f n` is f 0 + .. + f (n - 1).
   pub entries : (ring : List ℤ) (points : ℕ) (least height : Float) (stats : StripesStats) (s l : List ℕ) → StripesOf ring points least height stats s l
       → stats .entries ≡ sumTo (stripesCrossed (wide ring) (segments points)) (segments points)
   pub built-entries : (sizes : List ℕ) (coords : List ℤ) (options : BuildOptions) (t : List ℕ) (sp : List Float) (s l b : List ℕ)

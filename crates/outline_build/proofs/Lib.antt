@@ -3,3 +3,4 @@ pub mod Rings
 pub mod Outcomes
 pub mod Told
 pub mod Unique
+pub mod Enough
