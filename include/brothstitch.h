@@ -129,8 +129,13 @@ extern "C" {
 uint32_t brothstitch_list_scan(const int32_t *coords, size_t coords_len, size_t points, double y,
                                uint32_t *out, size_t out_len, uint64_t *value);
 
-/* By a stripe index, whoever wrote it; only its used part is lent. The same list, if it was built from the
- * ring. Place of damage: 0 where there are no stripes, else a position in list, or its length. */
+/* By a stripe index, whoever wrote it. The same list, if it was built from the ring. Place of damage: 0 where
+ * there are no stripes, else a position in list, or its length.
+ *
+ * Lend the used part of the stripes and no more: stripes_len is twice the number of stripes that
+ * brothstitch_build_stripes told. Every two numbers lent count as a stripe, and the height is shared out over
+ * all of them; so with zeros behind the used part a height falls into the wrong stripe, and segments are
+ * missed with no refusal. The same holds of brothstitch_ring_stripes. list may have numbers behind. */
 uint32_t brothstitch_list_stripes(const int32_t *coords, size_t coords_len, size_t points, double least,
                                   double height, const uint32_t *stripes, size_t stripes_len,
                                   const uint32_t *list, size_t list_len, double y, uint32_t *out,
@@ -147,7 +152,8 @@ uint32_t brothstitch_list_tree(const int32_t *coords, size_t coords_len, size_t 
 uint32_t brothstitch_ring_scan(const int32_t *coords, size_t coords_len, size_t points, double x, double y,
                                uint32_t edge, uint64_t *value);
 
-/* By a stripe index. */
+/* By a stripe index. Lend the used part of the stripes and no more, as for brothstitch_list_stripes: zeros
+ * behind it miss segments with no refusal, and turn inside into outside. */
 uint32_t brothstitch_ring_stripes(const int32_t *coords, size_t coords_len, size_t points, double least,
                                   double height, const uint32_t *stripes, size_t stripes_len,
                                   const uint32_t *list, size_t list_len, double x, double y, uint32_t edge,
@@ -166,8 +172,9 @@ uint32_t brothstitch_turn(const int32_t *coords, size_t coords_len, size_t point
 
 /* ---- Building an index of one ring: 1 built, 0 below the threshold. ------------------------------- */
 
-/* The stripes; *value: how many stripes. span gets least and height (two numbers); stats gets segments,
- * stripes, entries in all, and entries in the fullest stripe (four numbers). */
+/* The stripes; *value: how many stripes, so that 2 * *value numbers of stripes are the used part, which is what
+ * a later call is lent. span gets least and height (two numbers); stats gets segments, stripes, entries in
+ * all, and entries in the fullest stripe (four numbers). */
 uint32_t brothstitch_build_stripes(const int32_t *coords, size_t coords_len, size_t points, size_t threshold,
                                    uint32_t *stripes, size_t stripes_len, uint32_t *list, size_t list_len,
                                    double *span, size_t span_len, uint64_t *stats, size_t stats_len,
@@ -196,7 +203,10 @@ uint32_t brothstitch_build(const uint32_t *sizes, size_t sizes_len, const int32_
                            size_t work_len, uint64_t *value);
 
 /* Is the point, multiplied by scale, inside the outline? 1 yes, 0 no. boxes is what brothstitch_make
- * wrote, read as it stands. table, spans, stripes, list and bytes are what brothstitch_build wrote; a number
+ * wrote, read as it stands: it is not held against the points. A record that is not this outline's own is no
+ * refusal, and its answer is not the outline's: with a wrong box of ring 0 a point inside is told outside, and
+ * with a wrong box of another ring a tree of that ring is searched wrongly. Make it anew whenever sizes or
+ * coords change, or ask brothstitch_inside_plain, which needs none. table, spans, stripes, list and bytes are what brothstitch_build wrote; a number
  * missing from table counts as 0, so with all five empty every ring is scanned. A part, or a span, that table
  * tells of and that does not lie wholly in its slice is refusal 9, place 0. With both kinds a ring's stripes
  * are read. Places of damage count from the start of the ring's own part. */
@@ -206,6 +216,13 @@ uint32_t brothstitch_inside(const uint32_t *sizes, size_t sizes_len, const int32
                             const uint32_t *stripes, size_t stripes_len, const uint32_t *list,
                             size_t list_len, const uint8_t *bytes, size_t bytes_len, double x, double y,
                             uint32_t edge, uint64_t *value);
+
+/* The same question by the points alone: no record and no index is lent, and every ring is scanned. The
+ * boxes are worked out from the points at each call. Nothing that is lent here can be stale: the answer is that
+ * of brothstitch_inside with the outline's own record, and with any indexes built from its rings. */
+uint32_t brothstitch_inside_plain(const uint32_t *sizes, size_t sizes_len, const int32_t *coords,
+                                  size_t coords_len, double scale, uint32_t mode, double x, double y,
+                                  uint32_t edge, uint64_t *value);
 
 #ifdef __cplusplus
 }

@@ -117,6 +117,13 @@ static void outline(void)
     SAYS(brothstitch_inside(LENT(sizes), LENT(H), LENT(boxes), 1.0, 0, NULL, 0, NULL, 0, NULL, 0, NULL, 0, NULL, 0, 1.0,
                             1.0, 0, &value),
          1, 0);
+
+    /* a record that is not the outline's own is believed, and no record is needed */
+    memset(boxes, 0, sizeof boxes);
+    SAYS(INSIDE(1.0, 0, 1.0, 1.0, 0), 0, 0);
+    SAYS(brothstitch_inside_plain(LENT(sizes), LENT(H), 1.0, 0, 1.0, 1.0, 0, &value), 1, 0);
+    SAYS(brothstitch_inside_plain(LENT(sizes), LENT(H), 1.0, 1, 9.5, 5.0, 0, &value), 0, 0);
+    SAYS(brothstitch_inside_plain(LENT(sizes), LENT(H), 0.0, 0, 1.0, 1.0, 0, &value), 105, 0);
 }
 
 int main(void)

@@ -3,6 +3,7 @@
 // stands in a file of its own, asks one function of the library and tells its answer: 0 for no or for
 // done, 1 for yes or built, 100 and the refusal's number. A count, or a refusal's place, goes to value, else 0.
 mod ask_inside;
+mod ask_plain;
 mod build_indexes;
 mod build_stripes;
 mod build_tree;

@@ -62,4 +62,8 @@ extern "C" {
         stripes: *const u32, stripes_len: usize, list: *const u32, list_len: usize,
         bytes: *const u8, bytes_len: usize, x: f64, y: f64, edge: u32, value: *mut u64,
     ) -> u32;
+    pub fn brothstitch_inside_plain(
+        sizes: *const u32, sizes_len: usize, coords: *const i32, coords_len: usize, scale: f64, mode: u32,
+        x: f64, y: f64, edge: u32, value: *mut u64,
+    ) -> u32;
 }

@@ -213,3 +213,14 @@ pub fn inside(rings: LentRings, boxes: &[i32], index: LentIndex, asked: Asked) -
         )
     })
 }
+
+#[rustfmt::skip]
+pub fn inside_plain(rings: LentRings, asked: Asked) -> Result<Said, Refusal> {
+    let Asked { scale, mode, x, y, edge } = asked;
+    said(|value| unsafe {
+        c::brothstitch_inside_plain(
+            rings.sizes.as_ptr(), rings.sizes.len(), rings.coords.as_ptr(), rings.coords.len(), scale, mode,
+            x, y, edge, value,
+        )
+    })
+}

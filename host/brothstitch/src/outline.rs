@@ -74,7 +74,10 @@ pub struct Bounds {
     pub max: (i32, i32),
 }
 
-/// An outline that the library accepted. It owns its coordinates, the box of each ring, and the indexes.
+/// An outline that the library accepted. It owns its coordinates, the box of each ring, and the indexes. The
+/// boxes are the record that the library made of these coordinates, and nothing here changes the one without
+/// the other: a question believes its record as it stands, and one that is another outline's would be no
+/// refusal and a wrong answer.
 #[derive(Clone, Debug, PartialEq)]
 pub struct Outline {
     sizes: Vec<u32>,
@@ -158,6 +161,14 @@ impl Outline {
         let index = LentIndex { table, spans, stripes, list, bytes };
         let asked = Asked { scale: self.scale, mode: self.mode.number(), x, y, edge: edge.number() };
         ffi::inside(self.lent(), &self.boxes, index, asked).map(|said| said.yes)
+    }
+
+    /// The same by the points alone: neither the boxes nor the index is looked at, and every ring is scanned.
+    /// It is what [`Outline::contains`] answers with an index that was built from these rings, or with none;
+    /// so it tells whether an index that came from elsewhere can be relied on at a place.
+    pub fn contains_plain(&self, x: f64, y: f64, edge: Edge) -> Result<bool, Refusal> {
+        let asked = Asked { scale: self.scale, mode: self.mode.number(), x, y, edge: edge.number() };
+        ffi::inside_plain(self.lent(), asked).map(|said| said.yes)
     }
 
     pub fn scale(&self) -> f64 {
@@ -255,6 +266,8 @@ mod tests {
                         "{mode:?} {options:?} {x} {y}"
                     );
                     assert_eq!(outlines[k].contains(x, y, Edge::Allowed), Ok(allowed), "{mode:?} {options:?} {x} {y}");
+                    assert_eq!(outlines[k].contains_plain(x, y, Edge::Excluded), Ok(excluded), "{mode:?} {x} {y}");
+                    assert_eq!(outlines[k].contains_plain(x, y, Edge::Allowed), Ok(allowed), "{mode:?} {x} {y}");
                 }
             }
         }
@@ -262,6 +275,15 @@ mod tests {
         assert_eq!(s.contains(9.5, 5.0, Edge::Excluded), Ok(false));
         assert_eq!(s.contains(9.5, 5.0, Edge::Allowed), Ok(true));
         assert_eq!(s.contains(-0.5, 5.0, Edge::Allowed), Ok(false));
+    }
+
+    /// A record that is not the outline's own is believed: the boxes of zeros put (5, 5) out of S.
+    #[test]
+    fn a_record_of_another_outline() {
+        let [mut s, _] = sheet(Mode::Float);
+        s.boxes.fill(0);
+        assert_eq!(s.contains(5.0, 5.0, Edge::Excluded), Ok(false));
+        assert_eq!(s.contains_plain(5.0, 5.0, Edge::Excluded), Ok(true));
     }
 
     #[test]
@@ -327,6 +349,7 @@ mod tests {
         assert_eq!(h.contains(1.0, 1.5, Edge::Allowed), Ok(true));
         h.index_mut().stripes.clear();
         assert_eq!(h.contains(1.0, 1.5, Edge::Allowed), Err(Refusal::Damaged { place: 0 }));
+        assert_eq!(h.contains_plain(1.0, 1.5, Edge::Allowed), Ok(true));
         h.index_mut().table.clear();
         assert_eq!(h.contains(1.0, 1.0, Edge::Allowed), Ok(true));
     }

@@ -20,7 +20,9 @@ pub enum Turn {
 }
 
 /// A ring's stripes. The numbers may be changed at will: a search takes any, and tells damage that it
-/// meets.
+/// meets. Not all change is damage: every two numbers of `stripes` count as a stripe, and the height is shared
+/// out over all of them, so zeros pushed behind those that were built put a height into the wrong stripe, and
+/// segments are missed with no refusal.
 #[derive(Clone, Debug, PartialEq)]
 pub struct Stripes {
     pub least: f64,

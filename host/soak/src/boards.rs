@@ -286,6 +286,7 @@ fn inside(random: &mut Random, o: &Outline, rings: &Rings, refused: bool, tally:
             _ => good_pools.clone(),
         };
         tally.ask(&Inside { rings, boxes: &boxes, pools: &pools, asked })?;
+        tally.ask(&InsidePlain { rings, asked })?;
     }
     Ok(())
 }

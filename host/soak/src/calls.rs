@@ -532,3 +532,34 @@ impl Call for Inside<'_> {
         test(outline::inside(self.rings.lent(), self.boxes, asked, &Indexes { table, spans, stripes, list, bytes }))
     }
 }
+
+#[derive(Debug)]
+pub struct InsidePlain<'a> {
+    pub rings: &'a Rings,
+    pub asked: Asked,
+}
+
+impl Call for InsidePlain<'_> {
+    const NAME: &'static str = "inside_plain";
+    const ANSWERS: &'static [u32] = &[0, 1, 101, 102, 103, 104, 105, 106];
+
+    #[rustfmt::skip]
+    fn ours(&self, s: &mut Slices) -> u32 {
+        let Asked { x, y, edge } = self.asked;
+        let sizes = s.read("sizes", &self.rings.sizes);
+        let coords = s.read("coords", &self.rings.coords);
+        let value = s.value();
+        unsafe {
+            c::brothstitch_inside_plain(
+                sizes.ptr, sizes.len, coords.ptr, coords.len, self.rings.scale, self.rings.mode, x, y, edge, value,
+            )
+        }
+    }
+
+    fn model(&self) -> Outcome {
+        let Asked { x, y, edge } = self.asked;
+        let integer = self.rings.mode != 0;
+        let asked = outline::Asked { scale: self.rings.scale, integer, edge: edge != 0, x, y };
+        test(outline::inside_plain(self.rings.lent(), asked))
+    }
+}

@@ -47,6 +47,7 @@ impl Tally {
             row::<calls::Make>(),
             row::<calls::Build>(),
             row::<calls::Inside>(),
+            row::<calls::InsidePlain>(),
         ];
         Tally { lending, rows, calls: 0 }
     }

@@ -60,6 +60,10 @@ mod c {
             stripes: *const u32, stripes_len: usize, list: *const u32, list_len: usize, bytes: *const u8, bytes_len: usize,
             x: f64, y: f64, edge: u32, value: *mut u64,
         ) -> u32;
+        pub fn brothstitch_inside_plain(
+            sizes: *const u32, sizes_len: usize, coords: *const i32, coords_len: usize, scale: f64, mode: u32,
+            x: f64, y: f64, edge: u32, value: *mut u64,
+        ) -> u32;
     }
 }
 
@@ -220,6 +224,17 @@ pub fn inside(Rings { sizes, coords }: Rings, boxes: &[i32], asked: Asked, index
             sizes.as_ptr(), sizes.len(), coords.as_ptr(), coords.len(), boxes.as_ptr(), boxes.len(), scale,
             u32::from(integer), table.as_ptr(), table.len(), spans.as_ptr(), spans.len(), stripes.as_ptr(),
             stripes.len(), list.as_ptr(), list.len(), bytes.as_ptr(), bytes.len(), x, y, u32::from(edge), value,
+        )
+    })
+}
+
+#[rustfmt::skip]
+pub fn inside_plain(Rings { sizes, coords }: Rings, asked: Asked) -> Said {
+    let Asked { scale, integer, edge, x, y } = asked;
+    said(|value| unsafe {
+        c::brothstitch_inside_plain(
+            sizes.as_ptr(), sizes.len(), coords.as_ptr(), coords.len(), scale, u32::from(integer), x, y,
+            u32::from(edge), value,
         )
     })
 }

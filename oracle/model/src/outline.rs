@@ -205,6 +205,46 @@ pub fn inside(rings: Rings, boxes: &[i32], asked: Asked, indexes: &Indexes) -> A
     Ok(true)
 }
 
+/// The same by the points alone: no record and no index.
+pub fn inside_plain(rings: Rings, asked: Asked) -> Answer {
+    let Asked { scale, integer, edge, x, y } = asked;
+    rings.checked(scale, integer)?;
+    let (sx, sy) = (x * scale, y * scale);
+    if ![x, y, sx, sy].iter().all(|c| c.is_finite()) {
+        return Ok(false);
+    }
+    let (px, py) = (sx.round() as i64, sy.round() as i64);
+    let boxed = |k: usize| {
+        let ring = rings.ring(k);
+        let (xs, ys) = (ring.coords.iter().step_by(2), ring.coords.iter().skip(1).step_by(2));
+        let within = |low: i32, high: i32, whole: i64, float: f64| {
+            if integer {
+                i64::from(low) <= whole && whole <= i64::from(high)
+            } else {
+                f64::from(low) <= float && float <= f64::from(high)
+            }
+        };
+        within(*xs.clone().min().unwrap(), *xs.max().unwrap(), px, sx)
+            && within(*ys.clone().min().unwrap(), *ys.max().unwrap(), py, sy)
+    };
+    let test = |k: usize, edge| {
+        if integer {
+            Ok(grid_test(rings.ring(k), px, py, edge))
+        } else {
+            ring_scan(rings.ring(k).coords, rings.ring(k).points(), sx, sy, edge)
+        }
+    };
+    if !boxed(0) || !test(0, edge)? {
+        return Ok(false);
+    }
+    for k in 1..rings.sizes.len() {
+        if test(k, false)? {
+            return Ok(false);
+        }
+    }
+    Ok(true)
+}
+
 /// The rooms of a build.
 pub struct Rooms<'a> {
     pub table: &'a mut [u64],

@@ -99,7 +99,8 @@ fn rust_polygon(o: &Outline, options: PolygonBuildOptions) -> (I32Polygon, Vec<R
     (polygon, all)
 }
 
-/// What the Rust's indexes come to in the form that is lent. None where it builds over 65,536 stripes.
+/// What the Rust's indexes come to in the form that is lent; the statistics are those that its `index_stats` tells. None
+/// where it builds over 65,536 stripes.
 fn rust_pools(o: &Outline, stats: &[RingBuildStats]) -> Option<Pools> {
     let mut pools = Pools::of([0; 6]);
     for (ring, told) in o.rings().iter().zip(stats) {
@@ -110,12 +111,14 @@ fn rust_pools(o: &Outline, stats: &[RingBuildStats]) -> Option<Pools> {
         row[1] = u64::from(told.below_threshold);
         [row[3], row[5], row[8]] = [pools.stripes.len(), pools.list.len(), pools.bytes.len()].map(|n| n as u64);
         if told.used_y_stripes {
-            let (index, stats) = open::Stripes::build(&ring)?;
+            let (index, _) = open::Stripes::build(&ring)?;
+            let stats = told.y_stripes.as_ref().expect("a ring with stripes has their statistics");
             if index.stripes.len() > limits::MOST_STRIPES {
                 return None;
             }
             row[2] += 1;
-            [row[4], row[6], row[7]] = [index.stripes.len(), index.list.len(), stats.max_bucket_len].map(|n| n as u64);
+            row[0] = stats.segment_count as u64;
+            [row[4], row[6], row[7]] = [stats.stripe_count, stats.assigned_item_count, stats.max_bucket_len].map(|n| n as u64);
             span = [index.least, index.height];
             pools.stripes.extend(index.stripes.iter().flat_map(|s| [s.0, s.1]));
             pools.list.extend(index.list);
@@ -246,14 +249,40 @@ fn choices(random: &mut Random, rings: usize) -> Vec<Vec<u64>> {
     (0..6).map(|_| (0..rings).map(|_| random.below(4) as u64).collect()).collect()
 }
 
-/// Both edge rules, both modes, every choice of index: the Rust's answer.
+fn rust_says(polygon: &I32Polygon, [x, y]: [f64; 2], edge: bool) -> bool {
+    let p = Point { x, y };
+    if edge {
+        polygon.contains_point_allow_on_edge(p)
+    } else {
+        polygon.contains_point(p)
+    }
+}
+
+/// The Rust, without index, with stripes, with trees and with both, all from the first segment on.
+fn rust_each_way(o: &Outline) -> [(&'static str, I32Polygon); 4] {
+    let way = |stripes, tree| rust_polygon(o, options(stripes, tree, 0)).0;
+    [("none", way(false, false)), ("stripes", way(true, false)), ("tree", way(false, true)), ("both", way(true, true))]
+}
+
+/// Both edge rules, both modes, every choice of index on our side and each of the Rust's four on its own: one answer.
+/// So is that of the points alone.
 fn asked(plan: Plan) -> bool {
     let mut family = Family::new("outlines_asked", &[]);
     each_outline(plan, "outlines_asked", 2000, |random, o| {
         let lent = Lent::of(o);
         let (boxes, mut pools) = all_indexes(&lent, o);
-        let (theirs, _) = rust_polygon(o, options(false, false, 0));
+        let ways = rust_each_way(o);
         let queries: Vec<[f64; 2]> = (0..6).map(|_| outlines::random_query(random, &o.rings(), o.scale)).collect();
+        for &[x, y] in &queries {
+            for edge in [false, true] {
+                let ours = calls::inside_plain(lent.rings(), lent.asked([x, y], edge));
+                for (name, theirs) in &ways {
+                    let said = rust_says(theirs, [x, y], edge);
+                    let question = || format!("{o:?}, the Rust's index {name}, at {}, edge {edge}", all_shown(&[x, y]));
+                    family.same(ours, Ok((said, 0)), question);
+                }
+            }
+        }
         for choice in choices(random, o.sizes.len()) {
             if !pools.table.is_empty() {
                 for (k, &kinds) in choice.iter().enumerate() {
@@ -262,8 +291,7 @@ fn asked(plan: Plan) -> bool {
             }
             for &[x, y] in &queries {
                 for edge in [false, true] {
-                    let p = Point { x, y };
-                    let said = if edge { theirs.contains_point_allow_on_edge(p) } else { theirs.contains_point(p) };
+                    let said = rust_says(&ways[0].1, [x, y], edge);
                     let ours = calls::inside(lent.rings(), &boxes, lent.asked([x, y], edge), &pools.indexes());
                     let question = || format!("{o:?} by {choice:?} at {}, edge {edge}", all_shown(&[x, y]));
                     family.same(ours, Ok((said, 0)), question);
@@ -274,8 +302,8 @@ fn asked(plan: Plan) -> bool {
     family.end()
 }
 
-/// What the three calls say of an outline, and what they leave in rooms of a few numbers.
-fn all_said(lent: &Lent, boxes: &[i32], by_model: bool) -> (Said, Vec<i32>, Said, Pools, Said) {
+/// What the four calls say of an outline, and what they leave in rooms of a few numbers.
+fn all_said(lent: &Lent, boxes: &[i32], by_model: bool) -> (Said, Vec<i32>, Said, Pools, [Said; 2]) {
     let mut record = vec![7; 20];
     let mut pools = Pools::of([40; 6]);
     let wanted = Options { stripes: false, tree: true, threshold: 3 };
@@ -285,12 +313,14 @@ fn all_said(lent: &Lent, boxes: &[i32], by_model: bool) -> (Said, Vec<i32>, Said
         let made = count(outline::make(lent.rings(), scale, integer, &mut record));
         let built = count(outline::build(lent.rings(), wanted, pools.rooms()));
         let inside = answer(outline::inside(lent.rings(), boxes, asked, &none.indexes()));
-        return (made, record, built, pools, inside);
+        let plain = answer(outline::inside_plain(lent.rings(), asked));
+        return (made, record, built, pools, [inside, plain]);
     }
     let made = calls::make(lent.rings(), scale, u32::from(integer), &mut record);
     let built = calls::build(lent.rings(), bits(wanted), 3, pools.rooms());
     let inside = calls::inside(lent.rings(), boxes, asked, &none.indexes());
-    (made, record, built, pools, inside)
+    let plain = calls::inside_plain(lent.rings(), asked);
+    (made, record, built, pools, [inside, plain])
 }
 
 /// Each rule broken, in each way, and each pair of ways at once; damaged outlines; records that are short.
