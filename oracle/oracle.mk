@@ -25,10 +25,10 @@ compare: oracle-check target/staticlib/libprobe.a capi-library
 compare-short: oracle-check target/staticlib/libprobe.a capi-library
 	$(CARGO) run --release --offline -p compare -- --short
 
-# writes the questions and the oracle's answers that the crate replay is run on
+# writes the questions and the oracle's answers that the crates replay and replay_rings are run on
 replay-files: oracle-check
-	$(CARGO) run --release --offline -p ask -- sample ../crates/replay
+	$(CARGO) run --release --offline -p ask -- sample ../crates
 
 # the files that are there are those that replay-files writes
 replay-check: oracle-check
-	$(CARGO) run --release --offline -p ask -- sample --check ../crates/replay
+	$(CARGO) run --release --offline -p ask -- sample --check ../crates

@@ -1,22 +1,22 @@
 // Questions on boxes and segments.
 ghost use Prim.Native.Nat.{_≤_};
 ghost use lib.ListN.{length};
-use crate::fields::Field;
-use crate::fields::ends;
-use crate::fields::is;
-use crate::fields::number;
-use crate::fields::start;
-use crate::numbers::float_of;
-use crate::print;
-use crate::signed::coordinate;
-use crate::signed::is_coordinate;
-use crate::signed::signed;
 use boxes::Chosen;
 use boxes::I32Point;
 use boxes::Point;
 use boxes::Rect;
 use boxes::Segment;
 use boxes::choose_quad;
+use lines::fields::Field;
+use lines::fields::ends;
+use lines::fields::is;
+use lines::fields::number;
+use lines::fields::start;
+use lines::print;
+use lines::signed::coordinate;
+use lines::signed::float_of;
+use lines::signed::is_coordinate;
+use lines::signed::signed;
 use rays::RaycastResult;
 use rays::raycast;
 

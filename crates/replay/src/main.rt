@@ -1,17 +1,15 @@
 // Replays a fixed list of questions, one a line of standard input, and prints one answer a line, which
 // rt holds against the answers that the Rust gave. docs/REPLAY.md has the line form.
 mod casts;
-mod fields;
 mod grids;
 mod numbers;
-mod print;
-mod signed;
 mod varints;
 
 ghost use mathlib.Core.Path.{_≡_};
 ghost use lib.ListN.{length};
-use fields::line_end;
-use fields::word_end;
+use lines::fields::line_end;
+use lines::fields::word_end;
+use lines::print;
 
 // Room for the whole input. The `ensures` gives the length, which lending the array as a slice needs.
 fn input() -> [u8; 1048576]

@@ -1,23 +1,16 @@
 // Questions on floats and whole numbers.
 ghost use Prim.Native.Nat.{_≤_};
 ghost use lib.ListN.{length};
-use crate::fields::ends;
-use crate::fields::is;
-use crate::fields::number;
-use crate::fields::start;
-use crate::print;
 use floats::next_up;
+use lines::fields::ends;
+use lines::fields::is;
+use lines::fields::number;
+use lines::fields::start;
+use lines::print;
+use lines::signed::float_of;
 use root::sqrt;
 use whole::floor;
 use whole::round;
-
-// The float of a pattern; every NaN's pattern gives a NaN.
-pub fn float_of(bits: u64) -> f64 {
-    if 0x7ff0_0000_0000_0000 < bits % 0x8000_0000_0000_0000 {
-        return 0.0 / 0.0;
-    }
-    f64::from_bits(bits)
-}
 
 // Answers a line whose word, which ends at `word`, is of this module; false where it is not.
 pub fn answer(line: &[u8], word: usize) -> bool

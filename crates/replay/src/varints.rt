@@ -1,12 +1,12 @@
 // Questions on varints.
 ghost use Prim.Native.Nat.{_≤_};
 ghost use lib.ListN.{length};
-use crate::fields::bytes;
-use crate::fields::ends;
-use crate::fields::is;
-use crate::fields::number;
-use crate::fields::start;
-use crate::print;
+use lines::fields::bytes;
+use lines::fields::ends;
+use lines::fields::is;
+use lines::fields::number;
+use lines::fields::start;
+use lines::print;
 use varint::AppendUvarint;
 use varint::ReadUvarint;
 

@@ -1,9 +1,11 @@
 //! The program `oracle`: asks geometry-rs.
 //!
 //!     oracle < QUESTIONS              a line of answer for each line of question
-//!     oracle sample FOLDER            writes the sample: FOLDER/stdin, the questions, and FOLDER/stdout, the answers
-//!     oracle sample --check FOLDER    holds the two files against what it would write
+//!     oracle sample FOLDER            writes the samples: for FOLDER/replay and FOLDER/replay_rings the file stdin, the
+//!                                     questions, and stdout, the answers
+//!     oracle sample --check FOLDER    holds the four files against what it would write
 
+mod indexed;
 mod numbers;
 mod rings;
 mod sample;
@@ -24,7 +26,8 @@ fn main() -> ExitCode {
         ["sample", folder] => write_sample(Path::new(folder)),
         ["sample", "--check", folder] => check_sample(Path::new(folder)),
         ["--help"] => {
-            println!("{USAGE}\nquestions:\n{}\n{}\n{}", numbers::HELP, segments::HELP, rings::HELP);
+            let help = [numbers::HELP, segments::HELP, indexed::HELP, rings::HELP].join("\n");
+            println!("{USAGE}\nquestions:\n{help}");
             Ok(())
         }
         _ => Err(USAGE.into()),
@@ -43,6 +46,9 @@ fn answer(question: &str) -> Result<String, String> {
         return Ok(answer);
     }
     if let Some(answer) = segments::answer(question)? {
+        return Ok(answer);
+    }
+    if let Some(answer) = indexed::answer(question)? {
         return Ok(answer);
     }
     rings::answer(question)
@@ -65,15 +71,22 @@ fn answer_standard_input() -> Result<(), String> {
     Ok(())
 }
 
-/// The names and contents of the sample's files: what the Rust answers, then what 01 decides against
+/// The names and contents of the samples' files: what the Rust answers, then what 01 decides against
 /// it, then lines that are no question.
-fn sample_files() -> Result<[(&'static str, String); 2], String> {
+fn sample_files() -> Result<[(&'static str, String); 4], String> {
     let lines = |list: &[String]| list.iter().map(|line| format!("{line}\n")).collect::<String>();
     let (asked, others) = (lines(&sample::questions()), sample::no_questions());
     let (decided, decisions): (Vec<String>, Vec<String>) = sample::decided().into_iter().unzip();
     let questions = [&asked, &lines(&decided), &lines(&others)].map(String::as_str).concat();
-    let answers = answers(&asked)? + &lines(&decisions) + &"?\n".repeat(others.len());
-    Ok([("stdin", questions), ("stdout", answers)])
+    let answers_to = answers(&asked)? + &lines(&decisions) + &"?\n".repeat(others.len());
+    let (rings, others) = (lines(&sample::of_rings()), sample::no_questions_of_rings());
+    let of_rings = answers(&rings)? + &"?\n".repeat(others.len());
+    Ok([
+        ("replay/stdin", questions),
+        ("replay/stdout", answers_to),
+        ("replay_rings/stdin", rings + &lines(&others)),
+        ("replay_rings/stdout", of_rings),
+    ])
 }
 
 fn write_sample(folder: &Path) -> Result<(), String> {

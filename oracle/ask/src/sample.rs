@@ -3,6 +3,7 @@
 
 use crate::words::{bytes, coordinates};
 use cases::lent::{self, Lent};
+use cases::outlines::{self, Mode, Outline};
 use cases::segments::Ends;
 use cases::{boxes, floats, points, rings, segments, varints, Random, SEED};
 
@@ -181,4 +182,96 @@ fn grid_rings() -> Vec<String> {
         format!("grid_ring {} {:x} {} {}", coordinates(&lent.coords), lent.points, p.map(whole).join(" "), i % 2)
     };
     asked.iter().enumerate().map(line).collect()
+}
+
+/// The questions on lists, indexes and outlines: 01's sample sheet, edges, then random and damaged inputs.
+pub fn of_rings() -> Vec<String> {
+    let mut all = Vec::new();
+    let mut random = Random::new(SEED, "sample rings");
+    for lent in some_rings(&mut random) {
+        let ring = format!("{} {:x}", coordinates(&lent.coords), lent.points);
+        let corners: Vec<_> = lent.coords.chunks_exact(2).map(|c| [c[0], c[1]]).collect();
+        for word in ["list_scan", "list_stripes", "list_tree"] {
+            let y = if corners.len() < 2 { 0.0 } else { points::random_height(&mut random, &corners) };
+            all.push(format!("{word} {ring} {}", float(y)));
+        }
+        let threshold = *random.pick(&[0, 0, 0, 12, 31, 64]);
+        all.push(format!("stripes {ring} {threshold:x}"));
+        all.push(format!("tree {ring} {threshold:x}"));
+    }
+    let sheet = lent::Lent::of(&rings::sheet_square());
+    for y in [0.0, 10.0, -1.0, f64::INFINITY, f64::NEG_INFINITY, f64::NAN] {
+        for word in ["list_scan", "list_stripes", "list_tree"] {
+            all.push(format!("{word} {} 5 {}", coordinates(&sheet.coords), float(y)));
+        }
+    }
+    all.extend(insides(&mut random));
+    all
+}
+
+/// Rings whose coordinates the program has room for: 01's S, 12 and 13 segments, one point 13 times, broken ones, any.
+fn some_rings(random: &mut Random) -> Vec<Lent> {
+    let mut all = vec![Lent::of(&rings::sheet_square()), Lent::of(&rings::one_point([0, 0], 13))];
+    all.extend([12, 13].map(|n| Lent::of(&rings::circle([0.0, 0.0], 100.0, n))));
+    all.extend(lent::edges().into_iter().filter(|l| l.coords.len() <= 64).step_by(5));
+    for _ in 0..60 {
+        let segments = 1 + random.below(31);
+        let ring = rings::random_of(random, segments);
+        all.push(if random.one_in(10) { lent::damaged(random, &ring) } else { Lent::of(&ring) });
+    }
+    all.retain(|l| l.coords.len() <= 64);
+    all
+}
+
+/// Outlines of up to 64 coordinates, with every kind of index, both modes and both edge rules.
+fn insides(random: &mut Random) -> Vec<String> {
+    let (s, hole) = (rings::sheet_square(), rings::sheet_hole());
+    let mut all = Vec::new();
+    let line = |o: &Outline, kinds: usize, p: points::Place, edge: usize| {
+        let sizes: Vec<u8> = o.sizes.iter().map(|&n| n as u8).collect();
+        let mode = u8::from(o.mode == Mode::Integer);
+        let (sizes, coords) = (bytes(&sizes), coordinates(&o.coordinates));
+        format!("inside {sizes} {coords} {} {mode} {kinds} {} {edge}", float(o.scale), p.map(float).join(" "))
+    };
+    for mode in [Mode::Float, Mode::Integer] {
+        let holed = Outline::new(&[s.clone(), hole.clone()], 1.0, mode);
+        for p in [[5.0, 5.0], [11.0, 5.0], [0.0, 5.0], [1.0, 1.0], [2.0, 5.0], [9.5, 5.0], [-0.5, 5.0]] {
+            all.extend((0..8).map(|n| line(&holed, n % 4, p, n / 4)));
+        }
+    }
+    let fits = |o: &Outline| o.coordinates.len() <= 64 && o.sizes.len() <= 32 && o.sizes.iter().all(|&n| n <= 255);
+    while all.len() < 400 {
+        let mut shape = Vec::new();
+        for _ in 0..1 + random.below(4) {
+            let segments = 3 + random.below(8);
+            shape.push(rings::in_integer_range(&rings::random_of(random, segments)));
+        }
+        let mode = if random.one_in(3) { Mode::Integer } else { Mode::Float };
+        let good = Outline::new(&shape, *random.pick(&outlines::SCALES), mode);
+        let o = if random.one_in(8) { outlines::damaged(random, &good) } else { good };
+        let p = outlines::random_query(random, &shape, o.scale);
+        if fits(&o) {
+            all.push(line(&o, random.below(4), p, random.below(2)));
+        }
+    }
+    all
+}
+
+/// Lines that are no question of these.
+pub fn no_questions_of_rings() -> Vec<String> {
+    let lines = [
+        "list_scan",
+        "list_scan - 0",
+        "list_scan 000000 0 0",
+        "list_scn 00000000 0 0",
+        "list_tree 00000000 0 0 0",
+        "stripes 00000000 0",
+        "tree - 0 -",
+        "inside 05 - 0 0 0 0 0",
+        "inside 05 - 0 2 0 0 0 0",
+        "inside 05 - 0 0 4 0 0 0",
+        "inside 05 - 0 0 0 0 0 2",
+        "grid_ring 00000000 1 0 0 0",
+    ];
+    lines.map(String::from).to_vec()
 }
