@@ -2,4 +2,3 @@ pub mod Telling
 pub mod Filled
 pub mod Striped
 pub mod Unique
-pub mod UniquePlain

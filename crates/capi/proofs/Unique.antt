@@ -2,6 +2,7 @@
 use mathlib.Core.Path.{_≡_, ap, sym, _∙_}
 use Rattle.outcome.specs.OneOutcome.{OneOutcome}
 use Rattle.capi.proofs.ask_inside.brothstitch_inside
+use Rattle.capi.proofs.ask_plain.brothstitch_inside_plain
 use Rattle.capi.proofs.build_indexes.brothstitch_build
 use Rattle.capi.proofs.build_stripes.brothstitch_build_stripes
 use Rattle.capi.proofs.build_tree.brothstitch_build_tree
@@ -27,6 +28,9 @@ value-last = ap (λ o. (o .0 .0, (o .1, o .0 .1)))
 
 pub one-brothstitch-inside : OneOutcome brothstitch_inside.ended brothstitch_inside.Reads.Post
 one-brothstitch-inside _ _ _ _ _ _ p q = sym p ∙ q
+
+pub one-brothstitch-inside-plain : OneOutcome brothstitch_inside_plain.ended brothstitch_inside_plain.Reads.Post
+one-brothstitch-inside-plain _ _ _ _ _ _ p q = sym p ∙ q
 
 pub one-brothstitch-build : OneOutcome brothstitch_build.ended brothstitch_build.Reads.Post
 one-brothstitch-build _ _ _ _ _ _ p q = ap (λ o. (o .0 .0, (o .1, (o .2, (o .3, (o .4, (o .5, (o .6, o .0 .1)))))))) (sym p ∙ q)

@@ -145,8 +145,8 @@ demand-3 =
       built-inside = built-inside;
       gets-stripes = stripes-got;
       gets-tree =
-          λ ring points threshold bytes work sound reached roomy wide.
-          (_, _, _, builds ring points threshold bytes work sound reached wide roomy);
+          λ ring points threshold bytes work sound reached roomy enough.
+          (_, _, _, builds (ringChecked ring points) (wide ring) points threshold bytes work sound reached enough roomy);
       gets-record = record-got;
       gets-indexes =
           λ sizes coords options table spans stripes list bytes work sound room. indexes-got sizes coords options table spans stripes list bytes work room sound;

@@ -49,13 +49,13 @@ module _ (ring : List ℤ) (points threshold : ℕ) (stripes list : List ℕ) wh
       → stripeCount (wide ring) (segments points) * 2 ≤ length stripes → sumTo (stripesCrossed (wide ring) (segments points)) (segments points) ≤ length list
       → (least : Float) × (height : Float) × (stats : StripesStats) × (s : List ℕ) × (l : List ℕ)
       × (stripesBuilt ring points threshold stripes list ≡ (Striped least height stats, s, l))
-  stripes-got sound reached few wide roomy = (
+  stripes-got sound reached few enough roomy = (
     _,
     _,
     _,
     _,
     _,
-    builds-stripes ring points threshold stripes list sound reached few wide (omega (arith, own-entries (wide ring) (segments points) few)),
+    builds-stripes ring points threshold stripes list sound reached few enough (omega (arith, own-entries (wide ring) (segments points) few)),
   )
 
 pub record-got : (outline : Outline) (sizes : List ℕ) (coords boxes : List ℤ) → outlineChecked (outline .scale) (outline .mode) sizes coords ≡ Sound
@@ -117,9 +117,9 @@ module _ (options : BuildOptions) (ring : ℕ → Float) (points : ℕ) where
       → (hasTree options (segments points) ≡ true → workNumbers ring points ≤ length work)
       → (fewStripes options ring points && enoughWork options ring points work) ≡ true
   unfolding fewStripes enoughWork
-  called work few wide =
+  called work few enough =
       ap₂ _&&_ (unless (hasStripes options (segments points)) (leb (stripeCount ring (segments points)) 65536) (λ h. le-leb _ _ (few h)))
-      (unless (hasTree options (segments points)) (leb (workNumbers ring points) (length work)) (λ h. le-leb _ _ (wide h)))
+      (unless (hasTree options (segments points)) (leb (workNumbers ring points) (length work)) (λ h. le-leb _ _ (enough h)))
 
 module _ (sizes : List ℕ) (coords : List ℤ) (options : BuildOptions) (table : List ℕ) (spans : List Float) (stripes list bytes work : List ℕ)
     (room : RoomFor sizes coords options table spans stripes list bytes work) where

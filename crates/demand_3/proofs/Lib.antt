@@ -3,4 +3,3 @@ pub mod Choice
 pub mod Entries
 pub mod Gets
 pub mod Demand3
-pub mod Unique

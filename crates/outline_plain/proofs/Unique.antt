@@ -1,7 +1,7 @@
--- The promise leaves one answer. Over the contract that the code is held to, so an `ensures` that says less breaks it. Assumes nothing.
-use mathlib.Core.Path.{_≡_, sym, _∙_}
-use contract.Lifetimes.{Lfts}
-use Rattle.outline_plain.proofs.inside_plain.Reads as inside-plain
+-- Whatever is given, any two outcomes that meet the promise of a public function here are equal. Assumes nothing.
+use mathlib.Core.Path.{sym, _∙_}
+use Rattle.outcome.specs.OneOutcome.{OneOutcome}
+use Rattle.outline_plain.proofs.inside_plain
 
-pub one-inside-plain : (κs : Lfts 2) (a : _) (z z' : _) (e e' : _) → inside-plain.Post κs a z e → inside-plain.Post κs a z' e' → z ≡ z'
-one-inside-plain κs a z z' e e' p q = p ∙ sym q
+pub one-inside-plain : OneOutcome inside_plain.ended inside_plain.Reads.Post
+one-inside-plain _ _ _ _ _ _ p q = p ∙ sym q

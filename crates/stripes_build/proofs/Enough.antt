@@ -25,9 +25,9 @@ pub builds : (ring : List ℤ) (points threshold : ℕ) (stripes list : List ℕ
       pad (length stripes) (tableOf (crossesIn (wide ring) (segments points)) (segments points) (stripeCount (wide ring) (segments points))),
       pad (length list) (listOf (crossesIn (wide ring) (segments points)) (segments points) (stripeCount (wide ring) (segments points))),
     )
-builds ring points threshold stripes list sound reached few wide roomy =
+builds ring points threshold stripes list sound reached few enough roomy =
     let n = segments points in
-    built-sound ring points threshold stripes list sound
+    built-sound (ringChecked ring points) (wide ring) points threshold stripes list sound
     ∙ from-reached (wide ring) n threshold stripes list reached
-    ∙ indexed-few (wide ring) n stripes list (omega arith) wide
+    ∙ indexed-few (wide ring) n stripes list (omega arith) enough
     ∙ filled-fits (wide ring) n (leastY (wide ring) n) (heightY (wide ring) n) (stripeCount (wide ring) n) stripes list roomy
