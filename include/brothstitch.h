@@ -31,8 +31,9 @@
  *
  * Every call takes any numbers and any content, reads and writes only what it is lent, keeps nothing, and
  * returns
- *     0          no, or done
- *     1          yes, or built
+ *     0          no, done, or clockwise
+ *     1          yes, built, or anticlockwise
+ *     2          no turn (brothstitch_turn alone)
  *     100 + n    refusal n
  * It always sets *value: to a count where it says so, to the refusal's place, else to 0.
  *
@@ -83,6 +84,9 @@ extern "C" {
 #define BROTHSTITCH_DONE 0u
 #define BROTHSTITCH_BELOW_THRESHOLD 0u
 #define BROTHSTITCH_BUILT 1u
+#define BROTHSTITCH_CLOCKWISE 0u
+#define BROTHSTITCH_ANTICLOCKWISE 1u
+#define BROTHSTITCH_NO_TURN 2u
 #define BROTHSTITCH_REFUSED 100u
 
 #define BROTHSTITCH_TOO_FEW 1u
@@ -167,7 +171,11 @@ uint32_t brothstitch_ring_tree(const int32_t *coords, size_t coords_len, size_t 
 uint32_t brothstitch_ring_grid(const int32_t *coords, size_t coords_len, size_t points, int64_t x, int64_t y,
                                uint32_t edge, uint64_t *value);
 
-/* The turn of a ring: 1 anticlockwise (its exact area is above zero), 0 clockwise. */
+/* ---- The turn of a ring: BROTHSTITCH_ANTICLOCKWISE, BROTHSTITCH_CLOCKWISE or BROTHSTITCH_NO_TURN. --- */
+
+/* 1 anticlockwise (its exact area is above zero), 0 clockwise (below zero), 2 none (the
+ * area is 0: one point, a ring squeezed to a line, or one that goes as far round one way as the other).
+ * Backwards the same points give the opposite turn, or 2 again. */
 uint32_t brothstitch_turn(const int32_t *coords, size_t coords_len, size_t points, uint64_t *value);
 
 /* ---- Building an index of one ring: 1 built, 0 below the threshold. ------------------------------- */

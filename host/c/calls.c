@@ -38,6 +38,8 @@ static void same(int line, const char *name, const void *row, const void *right,
 
 static const int32_t S[] = {0, 0, 10, 0, 10, 10, 0, 10, 0, 0};
 static const int32_t H[] = {0, 0, 10, 0, 10, 10, 0, 10, 0, 0, 2, 2, 8, 2, 8, 8, 2, 8, 2, 2};
+static const int32_t S_reversed[] = {0, 0, 0, 10, 10, 10, 10, 0, 0, 0};
+static const int32_t flat[] = {0, 0, 5, 5, 0, 0};
 static const uint32_t sizes[] = {5, 5};
 
 static void one_ring(void)
@@ -71,6 +73,8 @@ static void one_ring(void)
     SAYS(brothstitch_ring_grid(LENT(S), 5, 10, 5, 0, &value), 0, 0);
     SAYS(brothstitch_ring_grid(LENT(S), 5, 10, 5, 1, &value), 1, 0);
     SAYS(brothstitch_turn(LENT(S), 5, &value), 1, 0);
+    SAYS(brothstitch_turn(LENT(S_reversed), 5, &value), 0, 0);
+    SAYS(brothstitch_turn(LENT(flat), 3, &value), 2, 0);
 
     /* refusals: a ring of one point; a height that is none; room too small; a list cut off */
     SAYS(brothstitch_turn(S, 2, 1, &value), 101, 0);

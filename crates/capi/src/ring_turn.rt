@@ -5,19 +5,15 @@ ghost use mathlib.Core.Path.{_≡_};
 ghost use Rattle.turn.specs.Turn.{turned};
 ghost use Rattle.capi.specs.Rings.{turnTold};
 
-// The turn of a ring: 1 anticlockwise, 0 clockwise.
+// The turn of a ring: 1 anticlockwise, 0 clockwise, 2 none.
 #[no_mangle]
 pub extern "C" fn brothstitch_turn(coords: &[i32], points: usize, value: &mut u64) -> u32
     ensures { λ r. ⌜ turnTold (turned (now (coords .entry)) points) ≡ (r, now (value .exit)) ⌝ }
 {
     match turn(coords, points) {
-        Turned::Anticlockwise => {
+        Turned::Turns(turning) => {
             *value = 0;
-            1
-        }
-        Turned::Clockwise => {
-            *value = 0;
-            0
+            turning.number()
         }
         Turned::Unturned(why) => tell_refusal(why, value),
     }

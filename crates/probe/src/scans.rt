@@ -31,7 +31,7 @@ pub extern "C" fn probe_scan(
     }
 }
 
-// 1 for anticlockwise goes to said, a refusal's place to place.
+// The turn's number goes to said, a refusal's place to place.
 #[no_mangle]
 pub extern "C" fn probe_turn(
     coords: &[i32],
@@ -42,14 +42,9 @@ pub extern "C" fn probe_turn(
     ensures { λ r. ⌜ turnNumbers (turned (now (coords .entry)) points) ≡ (r, now (place .exit), now (said .exit)) ⌝ }
 {
     match turn(coords, points) {
-        Turned::Anticlockwise => {
+        Turned::Turns(turning) => {
             *place = 0;
-            *said = 1;
-            0
-        }
-        Turned::Clockwise => {
-            *place = 0;
-            *said = 0;
+            *said = turning.number();
             0
         }
         Turned::Unturned(refusal) => {

@@ -12,6 +12,8 @@ use Rattle.rings.specs.Listing.{listedIn, scannedBy}
 use Rattle.rings.specs.RingTest.{testFrom}
 use Rattle.whole.specs.Round.{roundTo}
 use Rattle.grid.specs.Grid.{cross, isOn, isFlip}
+use Rattle.turn.specs.Turn.{sumTo, turnOf, turned}
+use Rattle.turn.specs.Order.{ringOf as pointsOf, reversed}
 use Rattle.rays.specs.Raycast.{firstSteps, lastSteps, raycastOf}
 use Rattle.stripes_place.specs.Stripe.{stripeOf}
 use Rattle.whole.specs.Floor.{floorWithin}
@@ -28,7 +30,7 @@ use Rattle.outline_ask.specs.Inside.{holesFrom, throughRings, insideOf}
 use Rattle.sheet.specs.Sheet.{SampleSheet}
 
 pub sample-sheet : SampleSheet
-unfolding scannedBy listedIn roomOf pad ringChecked treeBuiltBy fromThreshold packedIn nodes appendUvarint insideOf throughRings holesFrom scaledQuery ringAsked boxesTo boxNumbers leastZ greatestZ outlineWith shapeWith scaleChecked forFrom startOf ringOf packed ownBytes differences treeOf grown stripeOf floorWithin mul meeting upTo keep allWithin testFrom cross isOn isFlip roundTo raycastOf firstSteps lastSteps ne sub div ofInt le lt eq encode encodeIn readUvarint decode size nextUp ofBits toBits isNan
+unfolding scannedBy listedIn roomOf pad ringChecked treeBuiltBy fromThreshold packedIn nodes appendUvarint insideOf throughRings holesFrom scaledQuery ringAsked boxesTo boxNumbers leastZ greatestZ outlineWith shapeWith scaleChecked forFrom startOf ringOf packed ownBytes differences treeOf grown stripeOf floorWithin mul meeting upTo keep allWithin testFrom cross isOn isFlip roundTo turned turnOf sumTo reversed pointsOf raycastOf firstSteps lastSteps ne sub div ofInt le lt eq encode encodeIn readUvarint decode size nextUp ofBits toBits isNan
 sample-sheet =
     record {
       holds-5-5 = λ edge. refl;
@@ -49,6 +51,11 @@ sample-sheet =
       packs = λ threshold reached bytes work e f. rw (le-ltb 4 threshold reached, e, f);
       three-hundred = λ room e. rw e;
       eighty-nought = refl;
+      turns = refl;
+      backwards = refl;
+      turns-back = refl;
+      flat = refl;
+      still = refl;
       stripe-of-5 = refl;
       stripe-of-10 = refl;
       next-up = refl;

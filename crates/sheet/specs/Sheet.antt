@@ -16,6 +16,10 @@ use Rattle.rings.specs.declared.Listed.the-variants.{Count}
 use Rattle.rings.specs.Listing.{scanned}
 use Rattle.answers.specs.declared.Answer.{Answer}
 use Rattle.answers.specs.declared.Answer.the-variants.{Yes, No}
+use Rattle.turn.specs.declared.Turning.the-variants.{Anticlockwise, Clockwise, None}
+use Rattle.turn.specs.declared.Turned.the-variants.{Turns}
+use Rattle.turn.specs.Turn.{turned}
+use Rattle.turn.specs.Order.{reversed}
 use Rattle.stripes_place.specs.Stripe.{stripeOf}
 use Rattle.tree_build.specs.declared.TreeBuilt.the-variants.{Packed}
 use Rattle.tree_build.specs.Build.{treeBuilt}
@@ -37,6 +41,17 @@ S = pos 0 ∷ pos 0 ∷ pos 10 ∷ pos 0 ∷ pos 10 ∷ pos 10 ∷ pos 0 ∷ pos
 -- "H is S with hole (2,2) (8,2) (8,8) (2,8) (2,2)"
 abbrev pub H : List ℤ
 H = S ++ (pos 2 ∷ pos 2 ∷ pos 8 ∷ pos 2 ∷ pos 8 ∷ pos 8 ∷ pos 2 ∷ pos 8 ∷ pos 2 ∷ pos 2 ∷ [])
+
+-- "S reversed"
+abbrev pub S-reversed : List ℤ
+S-reversed = pos 0 ∷ pos 0 ∷ pos 0 ∷ pos 10 ∷ pos 10 ∷ pos 10 ∷ pos 10 ∷ pos 0 ∷ pos 0 ∷ pos 0 ∷ []
+
+-- "(0,0) (5,5) (0,0)", and "one point repeated"
+abbrev pub to-and-fro : List ℤ
+to-and-fro = pos 0 ∷ pos 0 ∷ pos 5 ∷ pos 5 ∷ pos 0 ∷ pos 0 ∷ []
+
+abbrev pub one-point : List ℤ
+one-point = pos 7 ∷ negsuc 2 ∷ pos 7 ∷ negsuc 2 ∷ pos 7 ∷ negsuc 2 ∷ pos 7 ∷ negsuc 2 ∷ []
 
 -- a ring of five points, and two of them
 abbrev pub one : List ℕ
@@ -91,6 +106,12 @@ pub record SampleSheet : Type 0 where
   -- "300 is AC 02." "80 00 reads 0."
   pub three-hundred : (room : List ℕ) → length room ≡ 3 → appendUvarint room 0 300 ≡ (Appended 2, 0xAC ∷ 0x02 ∷ 0 ∷ [])
   pub eighty-nought : readUvarint 64 (0x80 ∷ 0x00 ∷ []) 0 ≡ Value 0 2
+  -- "S is anticlockwise, S reversed clockwise; (0,0) (5,5) (0,0) and one point repeated have no turn."
+  pub turns : turned S 5 ≡ Turns Anticlockwise
+  pub backwards : reversed S 5 ≡ S-reversed
+  pub turns-back : turned S-reversed 5 ≡ Turns Clockwise
+  pub flat : turned to-and-fro 3 ≡ Turns None
+  pub still : turned one-point 4 ≡ Turns None
   -- "Stripe of 5, 10 with least 0, height 10, 32 stripes: 16, 31."
   pub stripe-of-5 : stripeOf (whole (pos 5)) (whole (pos 0)) (whole (pos 10)) 32 ≡ 16
   pub stripe-of-10 : stripeOf (whole (pos 10)) (whole (pos 0)) (whole (pos 10)) 32 ≡ 31

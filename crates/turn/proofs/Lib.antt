@@ -1,4 +1,10 @@
 pub mod Raised
 pub mod Compare
+pub mod Sums
+pub mod Rows
 pub mod Area
+pub mod Sign
+pub mod Reversal
+pub mod Start
+pub mod Flat
 pub mod Unique

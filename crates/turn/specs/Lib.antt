@@ -1,2 +1,4 @@
 pub mod Turn
+pub mod Order
+pub mod Line
 pub mod Inner

@@ -1,4 +1,4 @@
-// The turn of a ring: the sign of its doubled area, which is summed exactly.
+// The turn of a ring: the sign of its doubled area, which is summed exactly. A ring whose area is 0 has no turn.
 use answers::Refusal;
 use rings::Checked;
 use rings::check_ring;
@@ -6,14 +6,34 @@ ghost use mathlib.Core.Path.{_≡_};
 ghost use mathlib.Core.Bool.{true};
 ghost use Prim.Native.Nat.{_+_, _*_, _^_, _<_, _≤_};
 ghost use lib.Dec.{ltb};
-ghost use lib.IntN.{pos};
+ghost use lib.IntN.{pos, _-ℤ_};
 ghost use lib.ListN.{length};
-ghost use Rattle.turn.specs.Turn.{sumTo, turned};
+ghost use Rattle.turn.specs.Turn.{sumTo, turnOf, numberOf, turned};
 ghost use Rattle.turn.specs.Inner.Halves.{raised, product, valueOf};
 
-pub enum Turned {
+// The three turns.
+pub enum Turning {
     Anticlockwise,
     Clockwise,
+    None,
+}
+
+impl Turning {
+    // The number that stands for a turn where answers are numbers.
+    pub fn number(self) -> u32
+        ensures { λ r. ⌜ r ≡ numberOf self ⌝ }
+    {
+        match self {
+            Turning::Clockwise => 0,
+            Turning::Anticlockwise => 1,
+            Turning::None => 2,
+        }
+    }
+}
+
+// What the call answers: a turn, or a refusal.
+pub enum Turned {
+    Turns(Turning),
     Unturned(Refusal),
 }
 
@@ -66,6 +86,22 @@ fn above(a: Halves, b: Halves) -> bool
     (b.high < a.high) | ((b.high == a.high) & (b.low < a.low))
 }
 
+// The turn of a ring whose doubled area is plus less minus.
+fn tell(plus: Halves, minus: Halves) -> Turning
+    requires { ⌜ (plus .low < 2 ^ 32) × (minus .low < 2 ^ 32) ⌝ }
+    ensures { λ r. ⌜ r ≡ turnOf (pos (valueOf plus) -ℤ pos (valueOf minus)) ⌝ }
+{
+    if above(plus, minus) {
+        return Turning::Anticlockwise;
+    }
+    if above(minus, plus) {
+        Turning::Clockwise
+    } else {
+        Turning::None
+    }
+}
+
+// Rules 1 to 4, then the turn.
 pub fn turn(coords: &[i32], points: usize) -> Turned
     ensures { λ r. ⌜ r ≡ turned (now (coords .entry)) points ⌝ }
 {
@@ -75,11 +111,7 @@ pub fn turn(coords: &[i32], points: usize) -> Turned
             let n = points - 1;
             let plus = sum(coords, 0, 3, n);
             let minus = sum(coords, 2, 1, n);
-            if above(plus, minus) {
-                Turned::Anticlockwise
-            } else {
-                Turned::Clockwise
-            }
+            Turned::Turns(tell(plus, minus))
         }
         Checked::Faulty(why) => Turned::Unturned(why),
     }

@@ -4,6 +4,7 @@
 //! to set `value` at every call. So a call is safe as long as every slice goes over as its own pointer
 //! and its own length, which is all that this file does.
 
+use crate::ring::Turn;
 use crate::{c, Refusal};
 
 /// One ring as it is lent: its coordinates, two a point, and its point count.
@@ -25,11 +26,14 @@ fn said(call: impl FnOnce(*mut u64) -> u32) -> Result<Said, Refusal> {
     match call(&mut value) {
         0 => Ok(Said { yes: false, value }),
         1 => Ok(Said { yes: true, value }),
-        code => Err(code
-            .checked_sub(100)
-            .and_then(|number| Refusal::of(number, value))
-            .unwrap_or_else(|| panic!("the library returned {code}, which its interface does not have"))),
+        code => Err(refusal(code, value)),
     }
+}
+
+fn refusal(code: u32, value: u64) -> Refusal {
+    code.checked_sub(100)
+        .and_then(|number| Refusal::of(number, value))
+        .unwrap_or_else(|| panic!("the library returned {code}, which its interface does not have"))
 }
 
 #[rustfmt::skip]
@@ -105,8 +109,14 @@ pub fn ring_grid(ring: Lent, x: i64, y: i64, edge: u32) -> Result<Said, Refusal>
     })
 }
 
-pub fn turn(ring: Lent) -> Result<Said, Refusal> {
-    said(|value| unsafe { c::brothstitch_turn(ring.coords.as_ptr(), ring.coords.len(), ring.points, value) })
+pub fn turn(ring: Lent) -> Result<Turn, Refusal> {
+    let mut value = 0;
+    match unsafe { c::brothstitch_turn(ring.coords.as_ptr(), ring.coords.len(), ring.points, &mut value) } {
+        0 => Ok(Turn::Clockwise),
+        1 => Ok(Turn::Anticlockwise),
+        2 => Ok(Turn::None),
+        code => Err(refusal(code, value)),
+    }
 }
 
 /// The rooms of a stripe build: least and height go to `span`, the four statistics to `stats`.

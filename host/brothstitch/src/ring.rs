@@ -13,10 +13,15 @@ pub struct Ring<'a> {
     points: usize,
 }
 
+/// Which way a ring turns, by the sign of its exact area.
 #[derive(Clone, Copy, Debug, PartialEq, Eq)]
 pub enum Turn {
+    /// The area is above zero.
     Anticlockwise,
+    /// The area is below zero.
     Clockwise,
+    /// The area is 0: the ring is one point, is squeezed to a line, or goes as far round one way as the other.
+    None,
 }
 
 /// A ring's stripes. The numbers may be changed at will: a search takes any, and tells damage that it
@@ -106,8 +111,9 @@ impl<'a> Ring<'a> {
         ffi::ring_grid(self.lent(), x, y, edge.number()).map(|said| said.yes)
     }
 
+    /// The ring's turn. Backwards it is the opposite one, or none again.
     pub fn turn(self) -> Result<Turn, Refusal> {
-        ffi::turn(self.lent()).map(|said| if said.yes { Turn::Anticlockwise } else { Turn::Clockwise })
+        ffi::turn(self.lent())
     }
 
     /// The ring's stripes; none where it has fewer segments than the threshold.
@@ -210,6 +216,16 @@ mod tests {
     fn turns() {
         assert_eq!(Ring::new(&SQUARE).turn(), Ok(Turn::Anticlockwise));
         assert_eq!(Ring::new(&[0, 0, 0, 10, 10, 10, 0, 0]).turn(), Ok(Turn::Clockwise));
+        assert_eq!(Ring::new(&[0, 0, 5, 5, 0, 0]).turn(), Ok(Turn::None));
+        assert_eq!(Ring::new(&[7, -3, 7, -3]).turn(), Ok(Turn::None));
+        // an eight: as much one way as the other
+        assert_eq!(Ring::new(&[0, 0, 2, 2, 2, 0, 0, 2, 0, 0]).turn(), Ok(Turn::None));
+        // one unit of area between products of 2^64
+        let (low, high) = (i32::MIN, i32::MAX);
+        let thin = [low, low, high, high - 1, high - 1, high - 2, low, low];
+        assert_eq!(Ring::new(&thin).turn(), Ok(Turn::Clockwise));
+        let back = [low, low, high - 1, high - 2, high, high - 1, low, low];
+        assert_eq!(Ring::new(&back).turn(), Ok(Turn::Anticlockwise));
     }
 
     #[test]

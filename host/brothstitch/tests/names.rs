@@ -1,6 +1,6 @@
 //! The header's names stand for the numbers that the wrapper uses.
 
-use brothstitch::{row, BuildOptions, Outline, Refusal};
+use brothstitch::{c, row, BuildOptions, Outline, Refusal, Ring, Turn};
 use std::collections::BTreeMap;
 use std::fs;
 
@@ -54,6 +54,23 @@ fn numbers_of_the_header() {
     ];
     for (name, refusal) in refusals {
         assert_eq!(number(name), refusal.number() as usize, "{name}");
+    }
+}
+
+/// The names of the turns, held against what the library returns and what the wrapper makes of it.
+#[test]
+fn turns_of_the_header() {
+    let names = names();
+    let cases = [
+        ("ANTICLOCKWISE", Turn::Anticlockwise, vec![0, 0, 10, 0, 10, 10, 0, 10, 0, 0]),
+        ("CLOCKWISE", Turn::Clockwise, vec![0, 0, 0, 10, 10, 10, 10, 0, 0, 0]),
+        ("NO_TURN", Turn::None, vec![0, 0, 5, 5, 0, 0]),
+    ];
+    for (name, turn, ring) in cases {
+        let mut value = 7;
+        let said = unsafe { c::brothstitch_turn(ring.as_ptr(), ring.len(), ring.len() / 2, &mut value) };
+        assert_eq!((format!("{said}u"), value), (names[name].clone(), 0));
+        assert_eq!(Ring::new(&ring).turn(), Ok(turn));
     }
 }
 

@@ -49,7 +49,11 @@ impl Fixed {
             return self.rings[turn / 3 % self.rings.len()].clone();
         }
         loop {
-            let ring = if random.one_in(8) { rings::thin(random, 5) } else { rings::random(random) };
+            let ring = match random.below(16) {
+                0 | 1 => rings::thin(random, 5),
+                2 => rings::flat(random, 5),
+                _ => rings::random(random),
+            };
             let ring = if random.one_in(2) { rings::in_integer_range(&ring) } else { ring };
             if ring.len() <= self.most {
                 return ring;

@@ -274,7 +274,7 @@ pub struct Turn<'a> {
 
 impl Call for Turn<'_> {
     const NAME: &'static str = "turn";
-    const ANSWERS: &'static [u32] = &[0, 1, 101, 102, 103, 104];
+    const ANSWERS: &'static [u32] = &[0, 1, 2, 101, 102, 103, 104];
 
     fn ours(&self, s: &mut Slices) -> u32 {
         let coords = s.read("coords", &self.ring.coords);
@@ -283,7 +283,14 @@ impl Call for Turn<'_> {
     }
 
     fn model(&self) -> Outcome {
-        test(ring::turn(&self.ring.coords, self.ring.points))
+        let number = |turn| match turn {
+            ring::Turn::Clockwise => 0,
+            ring::Turn::Anticlockwise => 1,
+            ring::Turn::None => 2,
+        };
+        let said = ring::turn(&self.ring.coords, self.ring.points);
+        let (code, value) = said.map_or_else(refused, |turn| (number(turn), 0));
+        (code, rooms![value])
     }
 }
 

@@ -4,13 +4,15 @@ use crate::calls::{self, Call};
 use crate::lent::{differ, Content, Fault, Lending, Slices};
 use std::fmt::Write;
 
-/// No, yes, and the refusals 1 to 9.
-const COLUMNS: usize = 11;
+/// What is no refusal: no, yes, and a ring without a turn.
+const SAID: usize = 3;
+/// These, and the refusals 1 to 9.
+const COLUMNS: usize = SAID + 9;
 
 fn column(code: u32) -> Option<usize> {
     match code {
-        0 | 1 => Some(code as usize),
-        101..=109 => Some(code as usize - 99),
+        0..=2 => Some(code as usize),
+        101..=109 => Some(code as usize - 101 + SAID),
         _ => None,
     }
 }
@@ -89,13 +91,13 @@ impl Tally {
 
     /// The counts, a line for each call.
     pub fn table(&self) -> String {
-        let mut text = format!("{:<14}{:>11}{:>11}{:>11}", "call", "calls", "0", "1");
+        let mut text = format!("{:<14}{:>11}{:>11}{:>11}{:>11}", "call", "calls", "0", "1", "2");
         (1..=9).for_each(|n| write!(text, "{:>10}", format!("ref. {n}")).expect("a string takes all"));
         let mut sums = [0; COLUMNS];
         let mut line = |name: &str, counts: &[u64; COLUMNS]| {
             write!(text, "\n{name:<14}{:>11}", counts.iter().sum::<u64>()).expect("a string takes all");
             for (i, n) in counts.iter().enumerate() {
-                write!(text, "{n:>0$}", if i < 2 { 11 } else { 10 }).expect("a string takes all");
+                write!(text, "{n:>0$}", if i < SAID { 11 } else { 10 }).expect("a string takes all");
             }
         };
         for row in &self.rows {
@@ -119,7 +121,7 @@ impl Tally {
 
     /// How many of the refusals 1 to 9 were met.
     pub fn refusals(&self) -> usize {
-        (2..COLUMNS).filter(|&i| self.rows.iter().any(|row| row.counts[i] > 0)).count()
+        (SAID..COLUMNS).filter(|&i| self.rows.iter().any(|row| row.counts[i] > 0)).count()
     }
 }
 

@@ -3,6 +3,7 @@
 //! write only what it is lent.
 
 use model::outline::{Asked, Indexes, Options, Rings, Rooms};
+use model::ring::Turn;
 use model::stripes::Index;
 use model::{Answer, Count, No};
 
@@ -84,13 +85,17 @@ pub fn built(model: Result<Option<u64>, No>) -> Said {
     model.map(|n| (n.is_some(), n.unwrap_or(0)))
 }
 
-/// A call has to set the value, whatever it was.
-fn said(call: impl FnOnce(*mut u64) -> u32) -> Said {
+/// What a call returns, and its value. A call has to set the value, whatever it was.
+fn returned(call: impl FnOnce(*mut u64) -> u32) -> (u32, u64) {
     let mut value = 0x5a5a_5a5a_5a5a_5a5a;
-    match call(&mut value) {
-        0 => Ok((false, value)),
-        1 => Ok((true, value)),
-        n => Err((n.wrapping_sub(100), value)),
+    (call(&mut value), value)
+}
+
+fn said(call: impl FnOnce(*mut u64) -> u32) -> Said {
+    match returned(call) {
+        (0, value) => Ok((false, value)),
+        (1, value) => Ok((true, value)),
+        (n, value) => Err((n.wrapping_sub(100), value)),
     }
 }
 
@@ -155,8 +160,14 @@ pub fn ring_grid(Lent { coords, points }: Lent, [x, y]: [i64; 2], edge: u32) -> 
     said(|value| unsafe { c::brothstitch_ring_grid(coords.as_ptr(), coords.len(), points, x, y, edge, value) })
 }
 
-pub fn turn(Lent { coords, points }: Lent) -> Said {
-    said(|value| unsafe { c::brothstitch_turn(coords.as_ptr(), coords.len(), points, value) })
+/// The turn and the value, or a refusal's number and place.
+pub fn turn(Lent { coords, points }: Lent) -> Result<(Turn, u64), No> {
+    match returned(|value| unsafe { c::brothstitch_turn(coords.as_ptr(), coords.len(), points, value) }) {
+        (0, value) => Ok((Turn::Clockwise, value)),
+        (1, value) => Ok((Turn::Anticlockwise, value)),
+        (2, value) => Ok((Turn::None, value)),
+        (n, value) => Err((n.wrapping_sub(100), value)),
+    }
 }
 
 /// The rooms of a ring's stripes.

@@ -156,6 +156,55 @@ pub fn thin(random: &mut Random, segments: usize) -> Ring {
     closed(corners)
 }
 
+/// Corners on one line, up to the ends of i32, each any number of equal steps from one of them.
+pub fn flat(random: &mut Random, segments: usize) -> Ring {
+    let at = [0, 1].map(|_| i64::from(random.next() as i32));
+    let step = [0, 1].map(|_| i64::from(random.next() as i32 >> random.below(32)));
+    // the least and the most steps that stay in i32
+    let (mut least, mut most) = (-1 << 32, 1 << 32);
+    for c in [0, 1] {
+        if step[c] != 0 {
+            let ends = [i32::MIN, i32::MAX].map(|end| (i64::from(end) - at[c]) / step[c]);
+            least = least.max(ends[0].min(ends[1]));
+            most = most.min(ends[0].max(ends[1]));
+        }
+    }
+    let mut corner = || {
+        let steps = random.between(least, most);
+        [0, 1].map(|c| (at[c] + steps * step[c]) as i32)
+    };
+    closed((0..segments).map(|_| corner()).collect())
+}
+
+/// Rings as large as i32 allows, each with the sign of its doubled area: the flattest triangles there
+/// are, an area of 1 between products of 2^64, once and many times around; squares as many times around as
+/// points allow, which takes 76 bits; and as many times back again, alone and with one such triangle.
+pub fn flattest() -> Vec<(Ring, i32)> {
+    // the sides from the first corner are (n, n - 1) and (n - 1, n - 2), with n = 2^32 - 1
+    let thin: Ring = vec![LOW, [i32::MAX, i32::MAX - 1], [i32::MAX - 1, i32::MAX - 2]];
+    let full: Ring = vec![LOW, [i32::MAX, i32::MIN], HIGH, [i32::MIN, i32::MAX]];
+    // from the same first corner the other way round
+    let back = |corners: &Ring| [&corners[..1], &corners[1..].iter().rev().copied().collect::<Ring>()].concat();
+    let made = [
+        (vec![LOW, HIGH, [0, 0]], 0),
+        (thin.clone(), -1),
+        (thin.repeat(limits::MOST_SEGMENTS / 3), -1),
+        ([thin.clone(), back(&thin)].concat(), 0),
+        (full.repeat(limits::MOST_SEGMENTS / 4), 1),
+        ([full.repeat(512), back(&full).repeat(512)].concat(), 0),
+        ([full.repeat(511), thin.clone(), back(&full).repeat(511)].concat(), -1),
+    ];
+    // and backwards
+    made.iter().flat_map(|(corners, sign)| [(closed(corners.clone()), *sign), (closed(back(corners)), -sign)]).collect()
+}
+
+/// The same ring started at its k-th corner, and closed there.
+pub fn started_at(k: usize, ring: &[Corner]) -> Ring {
+    let open = &ring[..ring.len() - 1];
+    let k = k % open.len();
+    closed([&open[k..], &open[..k]].concat())
+}
+
 /// 01's S, and the hole of its H.
 pub fn sheet_square() -> Ring {
     square([0, 0], 10, 4)
@@ -321,15 +370,51 @@ mod tests {
         for _ in 0..1000 {
             let ring = thin(&mut r, 5);
             assert!(accepted(&ring) && ring.len() == 6);
-            let cross = |s: &[Corner]| {
-                let [[ax, ay], [bx, by]] = [s[0], s[1]].map(|c| c.map(i128::from));
-                ax * by - bx * ay
-            };
-            let area: i128 = ring.windows(2).map(cross).sum();
+            let area = doubled_area(&ring);
             assert!(area.abs() <= 1);
             seen[(area + 1) as usize] = true;
         }
         assert_eq!(seen, [true; 3]);
+    }
+
+    fn doubled_area(ring: &[Corner]) -> i128 {
+        let cross = |s: &[Corner]| {
+            let [[ax, ay], [bx, by]] = [s[0], s[1]].map(|c| c.map(i128::from));
+            ax * by - bx * ay
+        };
+        ring.windows(2).map(cross).sum()
+    }
+
+    #[test]
+    fn flat_ones_are_flat() {
+        let mut r = Random::new(crate::SEED, "test");
+        let mut widest = 0;
+        for segments in (1..20).cycle().take(1000) {
+            let ring = flat(&mut r, segments);
+            assert!(accepted(&ring) && ring.len() == segments + 1);
+            assert_eq!(doubled_area(&ring), 0);
+            widest = ring.iter().map(|c| i64::from(c[0]) - i64::from(ring[0][0])).max().unwrap().max(widest);
+        }
+        assert!(widest > 1 << 31);
+    }
+
+    #[test]
+    fn the_flattest_have_the_signs_they_are_said_to_have() {
+        let flattest = flattest();
+        for (ring, sign) in &flattest {
+            assert!(accepted(ring));
+            assert_eq!(doubled_area(ring).signum(), i128::from(*sign));
+        }
+        let areas: Vec<i128> = flattest.iter().map(|(ring, _)| doubled_area(ring)).collect();
+        assert!([-1, 0, 1, 1024 * 2 * ((1_i128 << 32) - 1).pow(2)].iter().all(|area| areas.contains(area)));
+    }
+
+    #[test]
+    fn a_ring_can_start_at_each_corner() {
+        let square = sheet_square();
+        assert_eq!(started_at(1, &square), [[10, 0], [10, 10], [0, 10], [0, 0], [10, 0]]);
+        assert_eq!(started_at(4, &square), square);
+        assert_eq!(started_at(0, &one_point([3, 4], 1)), one_point([3, 4], 1));
     }
 
     #[test]

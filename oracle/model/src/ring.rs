@@ -222,12 +222,28 @@ pub fn ring_grid(coords: &[i32], points: usize, x: i64, y: i64, edge: bool) -> A
     Ring::checked_grid(coords, points).map(|ring| grid_test(ring, x, y, edge))
 }
 
-/// Whether the ring turns anticlockwise: whether its doubled signed area is above zero.
-pub fn turn(coords: &[i32], points: usize) -> Answer {
+#[derive(Clone, Copy, Debug, PartialEq, Eq)]
+pub enum Turn {
+    Anticlockwise,
+    Clockwise,
+    /// The area is 0: as much of the ring goes round one way as the other.
+    None,
+}
+
+/// The sign of the doubled signed area, which is that of the triangles between the first point and each
+/// segment. Their sides have 33 bits, so that nothing here comes near the ends of an i128.
+pub fn turn(coords: &[i32], points: usize) -> Result<Turn, No> {
     let ring = Ring::checked(coords, points)?;
-    let part = |s: Segment| {
-        let [ax, ay, bx, by] = [s.a.0, s.a.1, s.b.0, s.b.1].map(i128::from);
+    let first = ring.point(0);
+    let from_first = |(x, y)| (i128::from(x) - i128::from(first.0), i128::from(y) - i128::from(first.1));
+    let triangle = |s: Segment| {
+        let ((ax, ay), (bx, by)) = (from_first(s.a), from_first(s.b));
         ax * by - bx * ay
     };
-    Ok((0..ring.segments()).map(|i| part(ring.segment(i))).sum::<i128>() > 0)
+    let doubled: i128 = (0..ring.segments()).map(|i| triangle(ring.segment(i))).sum();
+    Ok(match doubled {
+        1.. => Turn::Anticlockwise,
+        0 => Turn::None,
+        _ => Turn::Clockwise,
+    })
 }

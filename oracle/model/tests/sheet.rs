@@ -1,7 +1,7 @@
 //! The sample sheet of docs/01-scope.md, asked of the model, and a place of each kind of damage.
 
 use model::outline::{self, Asked, Indexes, Rings};
-use model::ring::{self, Ring};
+use model::ring::{self, Ring, Turn};
 use model::{stripes, tree};
 
 const S: [i32; 10] = [0, 0, 10, 0, 10, 10, 0, 10, 0, 0];
@@ -31,6 +31,16 @@ fn asking() {
     assert_eq!(inside(&[S, HOLE], false, 2.0, 5.0), [true, true]);
     assert_eq!(inside(&[S], true, 9.5, 5.0), [false, true]);
     assert_eq!(inside(&[S], true, -0.5, 5.0), [false, false]);
+}
+
+#[test]
+fn turns() {
+    let turn = |coords: &[i32]| ring::turn(coords, coords.len() / 2);
+    assert_eq!(turn(&S), Ok(Turn::Anticlockwise));
+    assert_eq!(turn(&[0, 0, 0, 10, 10, 10, 10, 0, 0, 0]), Ok(Turn::Clockwise));
+    assert_eq!(turn(&[0, 0, 5, 5, 0, 0]), Ok(Turn::None));
+    assert_eq!(turn(&[7, -3, 7, -3, 7, -3, 7, -3]), Ok(Turn::None));
+    assert_eq!(turn(&[0, 0, 5, 5]), Err((4, 0)));
 }
 
 /// The record is read as it stands, and a short one is refused in rule 3's turn.

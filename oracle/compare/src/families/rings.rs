@@ -6,6 +6,7 @@ use crate::report::{Family, Plan};
 use cases::lent::{self, Lent};
 use cases::rings::{self, Corner, Ring};
 use cases::{points, segments, Random};
+use model::ring::Turn;
 use opened::open;
 
 pub const FAMILIES: &[Run] = &[("scan", scan), ("turn", turn)];
@@ -84,22 +85,61 @@ pub(super) fn each_fault(plan: Plan, name: &str, mut ask: impl FnMut(&Lent)) {
     }
 }
 
-/// The Rust has no turn: the exact sum is the model's.
+/// The turn as the library says it, and through the C interface. The Rust has no turn: the exact sum is the
+/// model's. Gives back what was said, nothing where the ring was refused.
+fn ask_turn(family: &mut Family, lent: &Lent) -> Option<Turn> {
+    let exact = model::ring::turn(&lent.coords, lent.points);
+    let told = ours::turn(lent);
+    family.same(told, exact, || format!("{lent:?}"));
+    let through_c = calls::turn(calls::Lent { coords: &lent.coords, points: lent.points });
+    family.same(through_c, exact.map(|turn| (turn, 0)), || format!("through C, {lent:?}"));
+    told.ok()
+}
+
+/// A ring, the same run through backwards, and the same started at another corner: the second turns the
+/// other way, and the third as the first.
+fn turn_each_way(family: &mut Family, random: &mut Random, ring: &[Corner]) -> Option<Turn> {
+    let there = ask_turn(family, &Lent::of(ring));
+    let back = ask_turn(family, &Lent::of(&ring.iter().rev().copied().collect::<Ring>()));
+    let opposite = there.map(|turn| match turn {
+        Turn::Anticlockwise => Turn::Clockwise,
+        Turn::Clockwise => Turn::Anticlockwise,
+        Turn::None => Turn::None,
+    });
+    family.same(back, opposite, || format!("backwards, {ring:?}"));
+    let elsewhere = ask_turn(family, &Lent::of(&rings::started_at(random.below(ring.len()), ring)));
+    family.same(elsewhere, there, || format!("started elsewhere, {ring:?}"));
+    there
+}
+
 fn turn(plan: Plan) -> bool {
     let mut family = Family::new("turn", &[]);
-    let mut ask = |lent: &Lent| {
-        let exact = model::ring::turn(&lent.coords, lent.points);
-        family.same(ours::turn(lent), exact, || format!("{lent:?}"));
-    };
     for [a, b] in segments::of_grid(3) {
         for [c, d] in segments::of_grid(3) {
-            ask(&Lent::of(&[a, b, c, d, a]));
+            ask_turn(&mut family, &Lent::of(&[a, b, c, d, a]));
         }
     }
-    each_ring(plan, "turn", 40, |_, ring| {
-        ask(&Lent::of(ring));
-        ask(&Lent::of(&ring.iter().rev().copied().collect::<Ring>()));
+    let mut random = Random::new(plan.seed, "turn flat");
+    for (ring, turns) in rings::flattest() {
+        let said = turn_each_way(&mut family, &mut random, &ring);
+        let known = [Turn::Clockwise, Turn::None, Turn::Anticlockwise][(turns + 1) as usize];
+        family.same(said, Some(known), || format!("{ring:?}"));
+    }
+    for _ in 0..plan.random / 400 {
+        let segments = 1 + random.below(40);
+        let flat = rings::flat(&mut random, segments);
+        let said = turn_each_way(&mut family, &mut random, &flat);
+        family.same(said, Some(Turn::None), || format!("on one line, {flat:?}"));
+        let thin = rings::thin(&mut random, segments);
+        turn_each_way(&mut family, &mut random, &thin);
+        let extremes = rings::extremes(&mut random, segments);
+        turn_each_way(&mut family, &mut random, &extremes);
+    }
+    each_ring(plan, "turn", 40, |random, ring| {
+        turn_each_way(&mut family, random, ring);
     });
-    each_fault(plan, "turn faults", &mut ask);
+    each_fault(plan, "turn faults", |lent| {
+        ask_turn(&mut family, lent);
+    });
     family.end()
 }

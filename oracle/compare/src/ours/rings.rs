@@ -1,5 +1,6 @@
 use super::{said, told, Refusal};
 use cases::lent::Lent;
+use model::ring::Turn;
 
 mod c {
     extern "C" {
@@ -26,8 +27,13 @@ pub fn scan(ring: &Lent, y: f64, out: &mut [u32]) -> Result<u64, Refusal> {
     said(number, value, value as u64)
 }
 
-/// Whether the ring turns anticlockwise.
-pub fn turn(ring: &Lent) -> Result<bool, Refusal> {
+pub fn turn(ring: &Lent) -> Result<Turn, Refusal> {
     let Lent { coords, points } = ring;
-    told(|place, with| unsafe { c::probe_turn(coords.as_ptr(), coords.len(), *points, place, with) }).map(|n| n == 1)
+    let said = told(|place, with| unsafe { c::probe_turn(coords.as_ptr(), coords.len(), *points, place, with) });
+    said.map(|number| match number {
+        0 => Turn::Clockwise,
+        1 => Turn::Anticlockwise,
+        2 => Turn::None,
+        other => panic!("the library has no turn {other}"),
+    })
 }

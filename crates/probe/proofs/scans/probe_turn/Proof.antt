@@ -1,4 +1,5 @@
 use mathlib.Core.Path.{sym, ap, _∙_}
+use Prim.Native.Nat.{ℕ}
 use Rattle.probe.specs.Rings.{turnNumbers}
 use Rattle.probe.proofs.Told.{told-refusal}
 use borrow.Author.Needs.{needs}
@@ -6,17 +7,16 @@ use Rattle.probe.proofs.scans.probe_turn.Statement.{statement}
 use Rattle.probe.proofs.scans.probe_turn.Tie as tie
 
 returns : tie.Need-returns
-returns c = ap turnNumbers (sym (c .before .before .turn .ensures) ∙ c .enum-told .given .1)
+returns c =
+    let m = c .before .before in
+    ap turnNumbers (sym (m .before .before .turn .ensures) ∙ m .turning .given .1) ∙ ap (λ (n : ℕ). (0, 0, n)) (sym (c .number .ensures))
 
 returns-2 : tie.Need-returns-2
-returns-2 c = ap turnNumbers (sym (c .before .before .turn .ensures) ∙ c .enum-told2 .given .1)
-
-returns-3 : tie.Need-returns-3
-returns-3 c =
+returns-2 c =
     let m = c .before .before .before in
     told-refusal
     (ap turnNumbers (sym (m .before .before .turn .ensures) ∙ m .refusal .given .1))
-    (c .number .ensures)
+    (c .number2 .ensures)
     (c .before .place .ensures)
 
 pub probe-turn-spec : {M : Type 1} → statement M
@@ -25,10 +25,9 @@ probe-turn-spec =
     (tie.spec
     (λ c κs. search needs)
     (λ c. search needs)
-    (λ c. search needs)
+    (λ c κs. search needs)
     (λ c. search needs)
     (λ c κs. search needs)
     (λ c κs. search needs)
     returns
-    returns-2
-    returns-3)
+    returns-2)
