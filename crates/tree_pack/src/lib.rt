@@ -1,14 +1,13 @@
 // Packs a grown tree: recursion into quadrants while the remaining depth falls from 64. A child's size stands in its record,
-// so that it is known before the child is written, and nothing is written twice.
-use room::Put;
+// so that it is known before the child is written, and nothing is written twice. All sizes were worked out while the tree
+// grew and the builder has seen that the bytes fit, so no number's length is asked for here.
 use room::wide;
 use tree::QuadTree;
-use varint::put_uvarint;
+use varint::write_uvarint;
 ghost use mathlib.Core.Path.{_≡_};
 ghost use Prim.Native.Nat.{_+_, _-_, _≤_, _<_};
 ghost use lib.ListN.{length};
 ghost use Rattle.room.specs.Room.{write};
-ghost use Rattle.varint.specs.Leb128.{encode};
 ghost use Rattle.tree.specs.Tree.{maxDepth, ownBytes};
 ghost use Rattle.tree_pack.specs.Inner.Packing.{headOf, kidsOf, nodeOf, KidsStand, NodeStands};
 
@@ -19,29 +18,17 @@ fn difference(last: u32, x: u32) -> u64
     if x < last { 0 } else { (x - last) as u64 }
 }
 
-// A number's bytes at a place where they fit, and the place past them.
-fn put_number(out: &mut [u8], at: usize, x: u64) -> usize
-    requires { ⌜ at + length (encode x) ≤ length (now out) ⌝ }
-    ensures { λ r. ⌜ (r ≡ at + length (encode x)) × (now (out .exit) ≡ write (now (out .entry)) at (encode x)) ⌝ }
-{
-    match put_uvarint(out, at, x) {
-        Put::Past(next) => next,
-        // It fits, so this is never met.
-        Put::Short => at,
-    }
-}
-
 // A node's own segments: their count, and their differences.
 fn put_own(own: &[u32], out: &mut [u8], at: usize) -> usize
     requires { ⌜ at + length (ownBytes (now own)) ≤ length (now out) ⌝ }
     ensures { λ r. ⌜ (r ≡ at + length (ownBytes (now (own .entry)))) × (now (out .exit) ≡ write (now (out .entry)) at (ownBytes (now (own .entry)))) ⌝ }
 {
-    let mut p = put_number(out, at, own.len() as u64);
+    let mut p = write_uvarint(out, at, own.len() as u64);
     let mut last: u32 = 0;
     let mut i: usize = 0;
     while i < own.len() {
         let x = own[i];
-        p = put_number(out, p, difference(last, x));
+        p = write_uvarint(out, p, difference(last, x));
         last = x;
         i += 1;
     }
@@ -69,11 +56,11 @@ fn kids(counts: &[u32], run: &[u32], rest: &[u32], left: usize, out: &mut [u8], 
     }
     let n = wide(counts[0]);
     if n == 0 {
-        let next = put_number(out, at, 0);
+        let next = write_uvarint(out, at, 0);
         return kids(&counts[1..], run, rest, left, out, next);
     }
     let size = wide(rest[5]);
-    let start = put_number(out, at, size as u64);
+    let start = write_uvarint(out, at, size as u64);
     let nodes = node(&run[..n], rest, left, out, start);
     let used = nodes * 6;
     nodes

@@ -82,7 +82,7 @@ encode-length (suc k) x h =
     (λ (l : 128 ≤ x). rw (encode-more x l) (omega (arith, encode-length k (x / 128) (over-128 (suc k) x h))))
     (lt-or x 128)
 
-pow-128 : (k : ℕ) → 128 ^ k ≡ 2 ^ (7 * k)
+pub pow-128 : (k : ℕ) → 128 ^ k ≡ 2 ^ (7 * k)
 pow-128 zero = refl
 pow-128 (suc k) =
     let e : 7 * suc k ≡ 7 * k + 7 = omega arith in

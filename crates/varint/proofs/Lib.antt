@@ -1,4 +1,5 @@
 pub mod Leb128
+pub mod Length
 pub mod Weights
 pub mod Reading
 pub mod Writing

@@ -64,21 +64,19 @@ pub fn read_uvarint(src: &[u8], at: usize, end: usize) -> ReadUvarint
     ReadUvarint::Unread(Refusal::Damaged(at))
 }
 
-// How many bytes a number takes.
+// How many bytes a number takes, seven of its bits a byte. The lowest bit counts as set, which gives
+// 0 its one byte and makes no number longer. Nine sixty-fourths stand for a seventh: up to 64 bits
+// they come to as many bytes, and the division is by a power of two.
 pub fn uvarint_len(x: u64) -> usize
     ensures { λ r. ⌜ r ≡ length (encode x) ⌝ }
 {
-    let mut n: usize = 1;
-    let mut rest = x;
-    while 128 <= rest {
-        rest = rest / 128;
-        n += 1;
-    }
-    n
+    let bits = 64 - u64::leading_zeros(x | 1);
+    ((bits * 9 + 64) / 64) as usize
 }
 
-// Writes a number's bytes at a place where they fit, and answers the place past them.
-fn write_uvarint(out: &mut [u8], at: usize, x: u64) -> usize
+// Writes a number's bytes at a place where they fit, and answers the place past them. For the crates
+// above, which have worked out the room before they write.
+pub fn write_uvarint(out: &mut [u8], at: usize, x: u64) -> usize
     requires { ⌜ at + length (encode x) ≤ length (now out) ⌝ }
     ensures { λ r. ⌜ (r ≡ at + length (encode x)) × (now (out .exit) ≡ write (now (out .entry)) at (encode x)) ⌝ }
 {
@@ -93,8 +91,7 @@ fn write_uvarint(out: &mut [u8], at: usize, x: u64) -> usize
     p + 1
 }
 
-// For the crates above, which put several numbers one after the other: the bytes where they fit,
-// and else the room as it was.
+// A number's bytes where they fit, and else the room as it was.
 pub fn put_uvarint(out: &mut [u8], at: usize, x: u64) -> Put
     ensures { λ r. ⌜ putOf (encode x) at (now (out .entry)) ≡ (r, now (out .exit)) ⌝ }
 {

@@ -16,7 +16,7 @@ use Rattle.tree_pack.proofs.node.Reads as node
 use Rattle.tree_pack.proofs.node.Kinds as node-kinds
 use Rattle.tree_pack.proofs.+kids+node.Lts-node as node-lts
 use Rattle.tree_pack.proofs.put_head.Reads as put-head-reads
-use Rattle.tree_pack.proofs.put_number.Reads as put-number-reads
+use Rattle.varint.proofs.write_uvarint.Reads as write-uvarint-reads
 use Rattle.room.proofs.wide.Reads as wide-reads
 use Rattle.tree_pack.proofs.+kids+node.{statement}
 use Rattle.tree_pack.proofs.+kids+node.Tie.{close}
@@ -40,7 +40,7 @@ abbrev node-below : ℕ → In 3 node-kinds.ps
 node-below t = and 3 node-kinds.ps (falls 3 node-kinds.ps _<_ μ-node t) node.Pre
 
 abbrev kids-claims : ℕ → kids-lts.Claims
-kids-claims t = (wide-reads.Asked, wide-reads.Learnt, put-number-reads.Asked, put-number-reads.Learnt, kids-below t, kids.Post, node-below t, node.Post)
+kids-claims t = (wide-reads.Asked, wide-reads.Learnt, write-uvarint-reads.Asked, write-uvarint-reads.Learnt, kids-below t, kids.Post, node-below t, node.Post)
 
 abbrev node-claims : ℕ → node-lts.Claims
 node-claims t = (put-head-reads.Asked, put-head-reads.Learnt, wide-reads.Asked, wide-reads.Learnt, kids-below t, kids.Post)
@@ -50,8 +50,8 @@ kids-returns t c =
     let b = c .before .before .before .before .before in
     none-written _ (NodeStands (b .args .left)) _ _ _ _ _ (c .if1 .taken)
 
-kids-put-number-requires : (t : ℕ) → kids-lts.Need-put-number-requires (kids-claims t) (kids-at t) kids.Post
-kids-put-number-requires t c κs =
+kids-write-uvarint-requires : (t : ℕ) → kids-lts.Need-write-uvarint-requires (kids-claims t) (kids-at t) kids.Post
+kids-write-uvarint-requires t c κs =
     let k1 = c .before in
     let k2 = k1 .before in
     let k3 = k2 .before .before in
@@ -68,7 +68,7 @@ kids-kids-requires t c κs =
     let b = k4 .before .before .before .before .before in
     let s = nothing (nodeOf (b .args .left)) (NodeStands (b .args .left)) (b .args .counts .now) (b .args .run .now) (b .args .rest .now) (k3 .wide .result) (k4 .if1 .left) (k3 .wide .ensures) (k2 .if2 .taken) (b .pre .1 .0) in (
       omega (arith, b .pre .0, ap length (part-from 1 (b .args .counts .now)), length-drop 1 (b .args .counts .now), k4 .if1 .left),
-      (nothing-stand _ _ _ _ _ s (b .args .out .now) (b .args .at) (b .pre .1 .1) _ (k1 .put-number .ensures .1) _ (k1 .put-number .ensures .0) _ (part-from 1 (b .args .counts .now)), nothing-room _ _ _ _ _ s (b .args .out .now) (b .args .at) (b .pre .1 .1) _ (k1 .put-number .ensures .1) _ (k1 .put-number .ensures .0) _ (part-from 1 (b .args .counts .now))),
+      (nothing-stand _ _ _ _ _ s (b .args .out .now) (b .args .at) (b .pre .1 .1) _ (k1 .write-uvarint .ensures .1) _ (k1 .write-uvarint .ensures .0) _ (part-from 1 (b .args .counts .now)), nothing-room _ _ _ _ _ s (b .args .out .now) (b .args .at) (b .pre .1 .1) _ (k1 .write-uvarint .ensures .1) _ (k1 .write-uvarint .ensures .0) _ (part-from 1 (b .args .counts .now))),
     )
 
 kids-returns-2 : (t : ℕ) → kids-lts.Need-returns-2 (kids-claims t) (kids-at t) kids.Post
@@ -80,7 +80,7 @@ kids-returns-2 t c =
     let k5 = k4 .before .before in
     let b = k5 .before .before .before .before .before in
     let s = nothing (nodeOf (b .args .left)) (NodeStands (b .args .left)) (b .args .counts .now) (b .args .run .now) (b .args .rest .now) (k4 .wide .result) (k5 .if1 .left) (k4 .wide .ensures) (k3 .if2 .taken) (b .pre .1 .0) in
-    nothing-written _ _ _ _ _ s (b .args .out .now) (b .args .at) (b .pre .1 .1) _ (k2 .put-number .ensures .1) _ (k2 .put-number .ensures .0) _ (part-from 1 (b .args .counts .now)) _ _ (k1 .kids .ensures .0) (k1 .kids .ensures .1)
+    nothing-written _ _ _ _ _ s (b .args .out .now) (b .args .at) (b .pre .1 .1) _ (k2 .write-uvarint .ensures .1) _ (k2 .write-uvarint .ensures .0) _ (part-from 1 (b .args .counts .now)) _ _ (k1 .kids .ensures .0) (k1 .kids .ensures .1)
 
 kids-shared-slice-read-wide-2 : (t : ℕ) → kids-lts.Need-shared-slice-read-wide-2 (kids-claims t) (kids-at t) kids.Post
 kids-shared-slice-read-wide-2 t c =
@@ -91,8 +91,8 @@ kids-shared-slice-read-wide-2 t c =
     let q = quadrant (nodeOf (b .args .left)) (NodeStands (b .args .left)) (b .args .counts .now) (b .args .run .now) (b .args .rest .now) (k2 .wide .result) (k3 .if1 .left) (k2 .wide .ensures) (k1 .if2 .left) (b .pre .1 .0) in
     omega (arith, node-long (b .args .left) _ (b .args .rest .now) (q .kid .node))
 
-kids-put-number-requires-2 : (t : ℕ) → kids-lts.Need-put-number-requires-2 (kids-claims t) (kids-at t) kids.Post
-kids-put-number-requires-2 t c κs =
+kids-write-uvarint-requires-2 : (t : ℕ) → kids-lts.Need-write-uvarint-requires-2 (kids-claims t) (kids-at t) kids.Post
+kids-write-uvarint-requires-2 t c κs =
     let k1 = c .before in
     let k2 = k1 .before .before in
     let k3 = k2 .before in
@@ -119,7 +119,7 @@ kids-node-requires t c κs =
     let k5 = k4 .before .before in
     let b = k5 .before .before .before .before .before in
     let q = quadrant (nodeOf (b .args .left)) (NodeStands (b .args .left)) (b .args .counts .now) (b .args .run .now) (b .args .rest .now) (k4 .wide .result) (k5 .if1 .left) (k4 .wide .ensures) (k3 .if2 .left) (b .pre .1 .0) in
-    (omega (arith, b .pre .0), (q .kid .node, kid-room _ _ _ _ _ _ q (b .args .out .now) (b .args .at) (b .pre .1 .1) _ (k2 .wide2 .ensures ∙ q .kid .size) _ (k1 .put-number2 .ensures .1) _ (k1 .put-number2 .ensures .0)))
+    (omega (arith, b .pre .0), (q .kid .node, kid-room _ _ _ _ _ _ q (b .args .out .now) (b .args .at) (b .pre .1 .1) _ (k2 .wide2 .ensures ∙ q .kid .size) _ (k1 .write-uvarint2 .ensures .1) _ (k1 .write-uvarint2 .ensures .0)))
 
 kids-mul-used : (t : ℕ) → kids-lts.Need-mul-used (kids-claims t) (kids-at t) kids.Post
 kids-mul-used t c =
@@ -191,7 +191,7 @@ kids-part-kids-start-4 t c =
 kids-add-kids : (t : ℕ) → kids-lts.Need-add-kids (kids-claims t) (kids-at t) kids.Post
 kids-add-kids t c =
     let q = quadrant (nodeOf (c .before .before .before .before .before .before .before .before .before .before .before .before .before .before .before .before .before .before .before .before .before .before .before .args .left)) (NodeStands (c .before .before .before .before .before .before .before .before .before .before .before .before .before .before .before .before .before .before .before .before .before .before .before .args .left)) (c .before .before .before .before .before .before .before .before .before .before .before .before .before .before .before .before .before .before .before .before .before .before .before .args .counts .now) (c .before .before .before .before .before .before .before .before .before .before .before .before .before .before .before .before .before .before .before .before .before .before .before .args .run .now) (c .before .before .before .before .before .before .before .before .before .before .before .before .before .before .before .before .before .before .before .before .before .before .before .args .rest .now) (c .before .before .before .before .before .before .before .before .before .before .before .before .before .before .before .before .wide .result) (c .before .before .before .before .before .before .before .before .before .before .before .before .before .before .before .before .before .before .if1 .left) (c .before .before .before .before .before .before .before .before .before .before .before .before .before .before .before .before .wide .ensures) (c .before .before .before .before .before .before .before .before .before .before .before .before .before .before .before .if2 .left) (c .before .before .before .before .before .before .before .before .before .before .before .before .before .before .before .before .before .before .before .before .before .before .before .pre .1 .0) in
-    omega (arith, past-fits _ _ _ _ _ _ q (c .before .before .before .before .before .before .before .before .before .before .before .before .before .before .before .before .before .before .before .before .before .before .before .args .out .now) (c .before .before .before .before .before .before .before .before .before .before .before .before .before .before .before .before .before .before .before .before .before .before .before .args .at) (c .before .before .before .before .before .before .before .before .before .before .before .before .before .before .before .before .before .before .before .before .before .before .before .pre .1 .1) _ (c .before .before .before .before .before .before .before .before .before .before .before .before .before .wide2 .ensures ∙ q .kid .size) _ (c .before .before .before .before .before .before .before .before .before .before .before .put-number2 .ensures .1) _ (c .before .before .before .before .before .before .before .before .before .before .before .put-number2 .ensures .0) _ (c .before .before .before .before .before .before .node .ensures .0) _ (c .before .before .before .before .before .before .node .ensures .1))
+    omega (arith, past-fits _ _ _ _ _ _ q (c .before .before .before .before .before .before .before .before .before .before .before .before .before .before .before .before .before .before .before .before .before .before .before .args .out .now) (c .before .before .before .before .before .before .before .before .before .before .before .before .before .before .before .before .before .before .before .before .before .before .before .args .at) (c .before .before .before .before .before .before .before .before .before .before .before .before .before .before .before .before .before .before .before .before .before .before .before .pre .1 .1) _ (c .before .before .before .before .before .before .before .before .before .before .before .before .before .wide2 .ensures ∙ q .kid .size) _ (c .before .before .before .before .before .before .before .before .before .before .before .write-uvarint2 .ensures .1) _ (c .before .before .before .before .before .before .before .before .before .before .before .write-uvarint2 .ensures .0) _ (c .before .before .before .before .before .before .node .ensures .0) _ (c .before .before .before .before .before .before .node .ensures .1))
 
 kids-kids-requires-2 : (t : ℕ) → kids-lts.Need-kids-requires-2 (kids-claims t) (kids-at t) kids.Post
 kids-kids-requires-2 t c κs =
@@ -204,7 +204,7 @@ kids-kids-requires-2 t c κs =
     let b = k6 .before .before .before .before .before in
     let q = quadrant (nodeOf (b .args .left)) (NodeStands (b .args .left)) (b .args .counts .now) (b .args .run .now) (b .args .rest .now) (k5 .wide .result) (k6 .if1 .left) (k5 .wide .ensures) (k4 .if2 .left) (b .pre .1 .0) in (
       omega (arith, b .pre .0, ap length (part-from 1 (b .args .counts .now)), length-drop 1 (b .args .counts .now), k6 .if1 .left),
-      (more-stand _ _ _ _ _ _ q (b .args .out .now) (b .args .at) (b .pre .1 .1) _ (k3 .wide2 .ensures ∙ q .kid .size) _ (k2 .put-number2 .ensures .1) _ (k2 .put-number2 .ensures .0) _ (k1 .node .ensures .0) _ (k1 .node .ensures .1) _ _ _ (part-from 1 (b .args .counts .now)) (part-from (k5 .wide .result) (b .args .run .now)) (part-from (k1 .node .result * 6) (b .args .rest .now)), more-room _ _ _ _ _ _ q (b .args .out .now) (b .args .at) (b .pre .1 .1) _ (k3 .wide2 .ensures ∙ q .kid .size) _ (k2 .put-number2 .ensures .1) _ (k2 .put-number2 .ensures .0) _ (k1 .node .ensures .0) _ (k1 .node .ensures .1) _ _ _ (part-from 1 (b .args .counts .now)) (part-from (k5 .wide .result) (b .args .run .now)) (part-from (k1 .node .result * 6) (b .args .rest .now))),
+      (more-stand _ _ _ _ _ _ q (b .args .out .now) (b .args .at) (b .pre .1 .1) _ (k3 .wide2 .ensures ∙ q .kid .size) _ (k2 .write-uvarint2 .ensures .1) _ (k2 .write-uvarint2 .ensures .0) _ (k1 .node .ensures .0) _ (k1 .node .ensures .1) _ _ _ (part-from 1 (b .args .counts .now)) (part-from (k5 .wide .result) (b .args .run .now)) (part-from (k1 .node .result * 6) (b .args .rest .now)), more-room _ _ _ _ _ _ q (b .args .out .now) (b .args .at) (b .pre .1 .1) _ (k3 .wide2 .ensures ∙ q .kid .size) _ (k2 .write-uvarint2 .ensures .1) _ (k2 .write-uvarint2 .ensures .0) _ (k1 .node .ensures .0) _ (k1 .node .ensures .1) _ _ _ (part-from 1 (b .args .counts .now)) (part-from (k5 .wide .result) (b .args .run .now)) (part-from (k1 .node .result * 6) (b .args .rest .now))),
     )
 
 kids-add-result : (t : ℕ) → kids-lts.Need-add-result (kids-claims t) (kids-at t) kids.Post
@@ -218,7 +218,7 @@ kids-add-result t c =
     let k7 = k6 .before .before in
     let b = k7 .before .before .before .before .before in
     let q = quadrant (nodeOf (b .args .left)) (NodeStands (b .args .left)) (b .args .counts .now) (b .args .run .now) (b .args .rest .now) (k6 .wide .result) (k7 .if1 .left) (k6 .wide .ensures) (k5 .if2 .left) (b .pre .1 .0) in
-    omega (arith, more-fit _ _ _ _ _ _ q (b .args .out .now) (b .args .at) (b .pre .1 .1) _ (k4 .wide2 .ensures ∙ q .kid .size) _ (k3 .put-number2 .ensures .1) _ (k3 .put-number2 .ensures .0) _ (k2 .node .ensures .0) _ (k2 .node .ensures .1) _ _ _ (part-from 1 (b .args .counts .now)) (part-from (k6 .wide .result) (b .args .run .now)) (part-from (k2 .node .result * 6) (b .args .rest .now)) _ (k1 .kids2 .ensures .0))
+    omega (arith, more-fit _ _ _ _ _ _ q (b .args .out .now) (b .args .at) (b .pre .1 .1) _ (k4 .wide2 .ensures ∙ q .kid .size) _ (k3 .write-uvarint2 .ensures .1) _ (k3 .write-uvarint2 .ensures .0) _ (k2 .node .ensures .0) _ (k2 .node .ensures .1) _ _ _ (part-from 1 (b .args .counts .now)) (part-from (k6 .wide .result) (b .args .run .now)) (part-from (k2 .node .result * 6) (b .args .rest .now)) _ (k1 .kids2 .ensures .0))
 
 kids-returns-3 : (t : ℕ) → kids-lts.Need-returns-3 (kids-claims t) (kids-at t) kids.Post
 kids-returns-3 t c =
@@ -231,7 +231,7 @@ kids-returns-3 t c =
     let k7 = k6 .before .before in
     let b = k7 .before .before .before .before .before in
     let q = quadrant (nodeOf (b .args .left)) (NodeStands (b .args .left)) (b .args .counts .now) (b .args .run .now) (b .args .rest .now) (k6 .wide .result) (k7 .if1 .left) (k6 .wide .ensures) (k5 .if2 .left) (b .pre .1 .0) in
-    quadrant-written _ _ _ _ _ _ q (b .args .out .now) (b .args .at) (b .pre .1 .1) _ (k4 .wide2 .ensures ∙ q .kid .size) _ (k3 .put-number2 .ensures .1) _ (k3 .put-number2 .ensures .0) _ (k2 .node .ensures .0) _ (k2 .node .ensures .1) _ _ _ (part-from 1 (b .args .counts .now)) (part-from (k6 .wide .result) (b .args .run .now)) (part-from (k2 .node .result * 6) (b .args .rest .now)) _ _ (k1 .kids2 .ensures .0) (k1 .kids2 .ensures .1)
+    quadrant-written _ _ _ _ _ _ q (b .args .out .now) (b .args .at) (b .pre .1 .1) _ (k4 .wide2 .ensures ∙ q .kid .size) _ (k3 .write-uvarint2 .ensures .1) _ (k3 .write-uvarint2 .ensures .0) _ (k2 .node .ensures .0) _ (k2 .node .ensures .1) _ _ _ (part-from 1 (b .args .counts .now)) (part-from (k6 .wide .result) (b .args .run .now)) (part-from (k2 .node .result * 6) (b .args .rest .now)) _ _ (k1 .kids2 .ensures .0) (k1 .kids2 .ensures .1)
 
 node-put-head-requires : (t : ℕ) → node-lts.Need-put-head-requires (node-claims t) (node-at t) node.Post
 node-put-head-requires t c κs =
@@ -363,7 +363,7 @@ pub +kids+node-spec : {M : Type 1} → statement M
     (kids-returns t)
     (λ c. search needs)
     (λ c κs. search needs)
-    (kids-put-number-requires t)
+    (kids-write-uvarint-requires t)
     (λ c. search needs)
     (λ c. search needs)
     (λ c. search needs)
@@ -372,7 +372,7 @@ pub +kids+node-spec : {M : Type 1} → statement M
     (kids-returns-2 t)
     (kids-shared-slice-read-wide-2 t)
     (λ c κs. search needs)
-    (kids-put-number-requires-2 t)
+    (kids-write-uvarint-requires-2 t)
     (kids-slice-aggregate-node t)
     (kids-node-requires t)
     (kids-mul-used t)

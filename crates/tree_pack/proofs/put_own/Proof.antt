@@ -16,17 +16,17 @@ Inv-loop own out₀ at p₀ last₀ i₀ out p last i = Putting own out₀ p₀ 
 abbrev μ-loop : tie.MeasureT-loop
 μ-loop own out₀ at p₀ last₀ i₀ out p last i = length own - i
 
-put-number-requires : tie.Need-put-number-requires Inv-loop μ-loop
-put-number-requires c κs = let b = c .before .before .before in omega (arith, b .pre, own-length (b .args .own .now))
+write-uvarint-requires : tie.Need-write-uvarint-requires Inv-loop μ-loop
+write-uvarint-requires c κs = let b = c .before .before .before in omega (arith, b .pre, own-length (b .args .own .now))
 
 loop-holds : tie.Need-loop-holds Inv-loop μ-loop
 loop-holds c =
     let k = c .before .before in
     let b = k .before .before .before .before in
-    putting _ _ _ (omega (arith, k .put-number .ensures .0, b .pre, own-length (b .args .own .now), ap length (k .put-number .ensures .1), write-length (b .args .out .now) (b .args .at) (encode (length (b .args .own .now)))))
+    putting _ _ _ (omega (arith, k .write-uvarint .ensures .0, b .pre, own-length (b .args .own .now), ap length (k .write-uvarint .ensures .1), write-length (b .args .out .now) (b .args .at) (encode (length (b .args .own .now)))))
 
-put-number-requires-2 : tie.Need-put-number-requires-2 Inv-loop μ-loop
-put-number-requires-2 c κs =
+write-uvarint-requires-2 : tie.Need-write-uvarint-requires-2 Inv-loop μ-loop
+write-uvarint-requires-2 c κs =
     let l = c .before .before .before .before in
     omega (arith, putting-fits _ _ _ _ _ _ _ (l .loop .inv) (c .before .before .before .loop-test .taken), ap (λ (x : ℕ). length (encode x)) (c .difference .ensures))
 
@@ -35,12 +35,12 @@ loop-again c =
     let k = c .before .before in
     let d = k .before .difference .ensures in
     let l = k .before .before .before .before .before in
-    putting-more _ _ _ _ _ _ _ (l .loop .inv) (k .before .before .before .before .loop-test .taken) _ _ (k .put-number2 .ensures .1 ∙ rw d) (k .put-number2 .ensures .0 ∙ rw d)
+    putting-more _ _ _ _ _ _ _ (l .loop .inv) (k .before .before .before .before .loop-test .taken) _ _ (k .write-uvarint2 .ensures .1 ∙ rw d) (k .write-uvarint2 .ensures .0 ∙ rw d)
 
 returns : tie.Need-returns Inv-loop μ-loop
 returns c =
     let l = c .before in
-    let k = l .before .before .before .put-number in
+    let k = l .before .before .before .write-uvarint in
     let d = putting-done _ _ _ _ _ _ _ (l .loop .inv) (c .loop-test .left) in
     own-written _ _ _ _ _ _ _ (k .ensures .1) (k .ensures .0) (d .1) (d .0)
 
@@ -50,12 +50,12 @@ put-own-spec =
     (tie.spec
     Inv-loop
     μ-loop
-    put-number-requires
+    write-uvarint-requires
     loop-holds
     (λ c. search needs)
     (λ c. search needs)
     (λ c κs. search needs)
-    put-number-requires-2
+    write-uvarint-requires-2
     (λ c. search needs)
     (λ c. search needs)
     loop-again
