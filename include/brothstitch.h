@@ -48,10 +48,12 @@
  *     7  a list at a height that is not finite                         0
  *     8  lent room too small, or over 65,536 stripes called for        0
  *     9  index damaged where it was read                               where
+ *    15  a number in a packed tree that is longer than it has to be,   its first
+ *        or over 64 bits                                               byte
  *
  * Rings are numbered from 0, the exterior first; the lowest at fault is named; checks run in that order,
  * each over all rings before the next. A call on one ring numbers it 0. Refusals 1 to 7 touch no room
- * that was lent; 8 and 9 leave all room lent for writing zero. After success, room past the used part is zero, and work
+ * that was lent; 8, 9 and 15 leave all room lent for writing zero. After success, room past the used part is zero, and work
  * room is all zero.
  *
  * What comes again:
@@ -97,6 +99,7 @@ extern "C" {
 #define BROTHSTITCH_BAD_HEIGHT 7u
 #define BROTHSTITCH_NO_ROOM 8u
 #define BROTHSTITCH_DAMAGED 9u
+#define BROTHSTITCH_LOOSE 15u
 
 #define BROTHSTITCH_EDGE_EXCLUDED 0u
 #define BROTHSTITCH_EDGE_ALLOWED 1u
@@ -217,7 +220,7 @@ uint32_t brothstitch_build(const uint32_t *sizes, size_t sizes_len, const int32_
  * coords change, or ask brothstitch_inside_plain, which needs none. table, spans, stripes, list and bytes are what brothstitch_build wrote; a number
  * missing from table counts as 0, so with all five empty every ring is scanned. A part, or a span, that table
  * tells of and that does not lie wholly in its slice is refusal 9, place 0. With both kinds a ring's stripes
- * are read. Places of damage count from the start of the ring's own part. */
+ * are read. Places of damage (9 and 15) count from the start of the ring's own part. */
 uint32_t brothstitch_inside(const uint32_t *sizes, size_t sizes_len, const int32_t *coords, size_t coords_len,
                             const int32_t *boxes, size_t boxes_len, double scale, uint32_t mode,
                             const uint64_t *table, size_t table_len, const double *spans, size_t spans_len,

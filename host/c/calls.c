@@ -76,7 +76,7 @@ static void one_ring(void)
     SAYS(brothstitch_turn(LENT(S_reversed), 5, &value), 0, 0);
     SAYS(brothstitch_turn(LENT(flat), 3, &value), 2, 0);
 
-    /* refusals: a ring of one point; a height that is none; room too small; a list cut off */
+    /* refusals: a ring of one point; a height that is none; room too small; a list cut off; a loose number */
     SAYS(brothstitch_turn(S, 2, 1, &value), 101, 0);
     memset(out, 7, sizeof(out));
     SAYS(brothstitch_list_scan(LENT(S), 5, 1e300 * 1e300, LENT(out), &value), 107, 0);
@@ -84,6 +84,8 @@ static void one_ring(void)
     SAYS(brothstitch_list_scan(LENT(S), 5, 0.0, out, 2, &value), 108, 0);
     SAME(out, (const uint32_t[]){0, 0, 0x07070707, 0x07070707});
     SAYS(brothstitch_ring_stripes(LENT(S), 5, span[0], span[1], LENT(stripes), list, 9, 5.0, 5.0, 0, &value), 109, 9);
+    const uint8_t loose[] = {4, 0x80, 0, 1, 1, 1, 0};
+    SAYS(brothstitch_ring_tree(LENT(S), 5, LENT(loose), 5.0, 5.0, 0, &value), 115, 1);
 }
 
 static void outline(void)

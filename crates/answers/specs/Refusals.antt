@@ -2,7 +2,7 @@
 use Prim.Native.Nat.{ℕ}
 use mathlib.Core.Bool.{Bool, true, false}
 use Rattle.answers.specs.declared.Refusal.{Refusal}
-use Rattle.answers.specs.declared.Refusal.the-variants.{TooFew, TooMany, SizesDiffer, NotClosed, BadScale, BeyondLimit, BadHeight, NoRoom, Damaged}
+use Rattle.answers.specs.declared.Refusal.the-variants.{TooFew, TooMany, SizesDiffer, NotClosed, BadScale, BeyondLimit, BadHeight, NoRoom, Damaged, Loose}
 
 -- the table's first column
 abbrev pub numberOf : Refusal → ℕ
@@ -15,9 +15,10 @@ numberOf (BeyondLimit ring) = 6
 numberOf BadHeight = 7
 numberOf NoRoom = 8
 numberOf (Damaged at) = 9
+numberOf (Loose at) = 15
 
 -- The table's last column. What a case carries is a ring's number for 1, 4 and 6, a ring's number or 64 for 2, and for 9 what 01 gives under "Stripes" and
--- "The packed tree": 0, a position in the list or its length, or a byte.
+-- "The packed tree": 0, a position in the list or its length, or a byte. For 15 (CR 6) it is the varint's first byte.
 abbrev pub placeOf : Refusal → ℕ
 placeOf (TooFew ring) = ring
 placeOf (TooMany ring) = ring
@@ -28,8 +29,10 @@ placeOf (BeyondLimit ring) = ring
 placeOf BadHeight = 0
 placeOf NoRoom = 0
 placeOf (Damaged at) = at
+placeOf (Loose at) = at
 
--- "Refusals 1 to 7 touch no lent room .. 8 and 9, fill all output and work room with zeros"
+-- "Refusals 1 to 7 touch no lent room .. 8 and 9, fill all output and work room with zeros"; so does one that "is met while a list or a
+-- tree is being read", which 15 always is (CR 6)
 abbrev pub zeroesRooms : Refusal → Bool
 zeroesRooms (TooFew ring) = false
 zeroesRooms (TooMany ring) = false
@@ -40,3 +43,4 @@ zeroesRooms (BeyondLimit ring) = false
 zeroesRooms BadHeight = false
 zeroesRooms NoRoom = true
 zeroesRooms (Damaged at) = true
+zeroesRooms (Loose at) = true

@@ -15,6 +15,7 @@ pub enum Refusal {
     BadHeight,
     NoRoom,
     Damaged(usize),
+    Loose(usize),
 }
 
 impl Refusal {
@@ -32,11 +33,13 @@ impl Refusal {
             Refusal::BadHeight => 7,
             Refusal::NoRoom => 8,
             Refusal::Damaged(_) => 9,
+            Refusal::Loose(_) => 15,
         }
     }
 
     // 01's place of the refusal: a ring's number for 1, 4 and 6, a ring's number or 64 for 2, for 9 a
-    // byte of a tree or a position in a list of stripes, its length or 0, and 0 for the others.
+    // byte of a tree or a position in a list of stripes, its length or 0, for 15 a varint's first byte,
+    // and 0 for the others.
     pub fn place(self) -> usize
         ensures { λ r. ⌜ r ≡ placeOf self ⌝ }
     {
@@ -50,6 +53,7 @@ impl Refusal {
             Refusal::BadHeight => 0,
             Refusal::NoRoom => 0,
             Refusal::Damaged(at) => at,
+            Refusal::Loose(at) => at,
         }
     }
 
@@ -67,6 +71,7 @@ impl Refusal {
             Refusal::BadHeight => false,
             Refusal::NoRoom => true,
             Refusal::Damaged(_) => true,
+            Refusal::Loose(_) => true,
         }
     }
 }

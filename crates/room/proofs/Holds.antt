@@ -50,6 +50,10 @@ module _ {A : Type 0} where
   unfolding Holds
   holds-take l i n vs b h = rw (drop-take i n l (omega arith), take-take (length vs) (n - i) (drop i l) (omega arith)) h
 
+  pub take-holds : (l : List A) (i n : ℕ) (vs : List A) → i + length vs ≤ n → Holds (take n l) i vs → Holds l i vs
+  unfolding Holds
+  take-holds l i n vs b h = rw (drop-take i n l (omega arith), take-take (length vs) (n - i) (drop i l) (omega arith)) at h
+
   -- what was written where it fits stands there
   pub holds-write : (l : List A) (i : ℕ) (vs : List A) → i + length vs ≤ length l → Holds (write l i vs) i vs
   holds-write l i vs h =

@@ -10,12 +10,13 @@ use lib.Ieee.{Float, binary64, ofInt, ofBits, toBits}
 use Rattle.floats.specs.Next.{nextUp}
 use Rattle.varint.specs.Uvarint.{readUvarint, appendUvarint}
 use Rattle.varint.specs.declared.AppendUvarint.the-variants.{Appended}
-use Rattle.varint.specs.declared.ReadUvarint.the-variants.{Value}
+use Rattle.varint.specs.declared.ReadUvarint.the-variants.{Unread}
 use Rattle.boxes.specs.declared.Point.{Point}
 use Rattle.rings.specs.declared.Listed.the-variants.{Count}
 use Rattle.rings.specs.Listing.{scanned}
 use Rattle.answers.specs.declared.Answer.{Answer}
 use Rattle.answers.specs.declared.Answer.the-variants.{Yes, No}
+use Rattle.answers.specs.declared.Refusal.the-variants.{Loose}
 use Rattle.turn.specs.declared.Turning.the-variants.{Anticlockwise, Clockwise, None}
 use Rattle.turn.specs.declared.Turned.the-variants.{Turns}
 use Rattle.turn.specs.Turn.{turned}
@@ -103,9 +104,9 @@ pub record SampleSheet : Type 0 where
   -- "S packs to 04 00 01 01 01 00.": built from any threshold that its four segments reach, in the ten work numbers that one node and four segments call for
   pub packs : (threshold : ℕ) → threshold ≤ 4 → (bytes work : List ℕ) → length bytes ≡ 8 → length work ≡ 10
       → treeBuilt S 5 threshold bytes work ≡ (Packed 6, 0x04 ∷ 0x00 ∷ 0x01 ∷ 0x01 ∷ 0x01 ∷ 0x00 ∷ 0 ∷ 0 ∷ [], replicate 10 0)
-  -- "300 is AC 02." "80 00 reads 0."
+  -- "300 is AC 02." "80 00 refuses 15, place 0 (CR 6)."
   pub three-hundred : (room : List ℕ) → length room ≡ 3 → appendUvarint room 0 300 ≡ (Appended 2, 0xAC ∷ 0x02 ∷ 0 ∷ [])
-  pub eighty-nought : readUvarint 64 (0x80 ∷ 0x00 ∷ []) 0 ≡ Value 0 2
+  pub eighty-nought : readUvarint 64 (0x80 ∷ 0x00 ∷ []) 0 ≡ Unread (Loose 0)
   -- "S is anticlockwise, S reversed clockwise; (0,0) (5,5) (0,0) and one point repeated have no turn."
   pub turns : turned S 5 ≡ Turns Anticlockwise
   pub backwards : reversed S 5 ≡ S-reversed

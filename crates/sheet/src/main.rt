@@ -18,7 +18,7 @@ fn say(read: ReadUvarint) {
     text(b"\n");
 }
 
-// "Nine FF then 7F, or then 01": the tenth byte.
+// "Nine FF then 01", "then 7F": the tenth byte.
 fn nine_and(last: u8) {
     let bytes = [255u8, 255, 255, 255, 255, 255, 255, 255, 255, last];
     say(varint::read_uvarint(&bytes, 0, 10));
@@ -60,10 +60,10 @@ fn eighties() {
 fn main() {
     text(b"S, threshold 0, stripes:");
     stripes_of_s();
-    text(b"nine FF then 7F reads ");
-    nine_and(127);
-    text(b"nine FF then 01 reads ");
+    text(b"nine FF then 01: ");
     nine_and(1);
+    text(b"nine FF then 7F: ");
+    nine_and(127);
     trees::rows();
     trees::one_point();
     trees::one_point_short();

@@ -8,4 +8,6 @@ pub mod Searchable
 pub mod Back
 pub mod Demand
 pub mod Words
+pub mod Loose
+pub mod OneTree
 pub mod Samples

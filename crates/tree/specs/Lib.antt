@@ -1,3 +1,4 @@
 pub mod All
 pub mod Tree
 pub mod Search
+pub mod Reads

@@ -1,15 +1,15 @@
 -- The search by the ways through its definition, one law for each: what the functions' proofs go by. Assumes nothing.
-use Prim.Native.Nat.{ℕ, zero, suc, _+_, _-_, _%_, _^_, _≤_, _<_, min}
+use Prim.Native.Nat.{ℕ, zero, suc, _+_, _-_, _≤_, _<_}
 use mathlib.Core.Path.{_≡_, refl, sym, ap, _∙_}
 use mathlib.Core.List.{List, []}
 use mathlib.Core.Bool.{Bool, true, false, cond, true≢false}
 use native.Mathlib.Omega.{arith}
 use native.Mathlib.Nat.{not-suc-le-zero}
 use native.Mathlib.Numerals.{sub-one}
-use lib.Dec.{eqb, leb}
-use lib.ListN.{length, getD, take, drop, length-take, length-drop}
+use lib.Dec.{eqb}
+use lib.ListN.{length, getD, take, length-take}
 use lib.Ieee.{Float}
-use borrow.Author.Tests.{lt-ltb, le-ltb, leb-true, eq-eqb, ne-eqb}
+use borrow.Author.Tests.{lt-ltb, le-ltb, eq-eqb, ne-eqb}
 use Rattle.answers.specs.declared.Refusal.{Refusal}
 use Rattle.answers.specs.declared.Refusal.the-variants.{NoRoom, Damaged}
 use Rattle.boxes.specs.declared.Point.{Point}
@@ -19,9 +19,8 @@ use Rattle.boxes.specs.Quads.{quadBounds}
 use Rattle.rings.specs.Ring.{sideAt, holdsHeight}
 use Rattle.varint.specs.declared.ReadUvarint.{ReadUvarint}
 use Rattle.varint.specs.declared.ReadUvarint.the-variants.{Value, Unread}
-use Rattle.varint.specs.Leb128.{decode, size}
-use Rattle.varint.specs.Uvarint.{most, readUvarint}
-use Rattle.varint.proofs.Leb128.{size-some}
+use Rattle.varint.specs.Uvarint.{readUvarint}
+use Rattle.varint.proofs.Answers.{read-onward}
 use Rattle.room.specs.Numbers.{consIf}
 use Rattle.tree.specs.Search.{Found, ends, upto, damaged, after, closed, listed, meetsHeight, ownFrom, own, child, children, afterOwn, bySplit, nodeWith, node, searched}
 use Rattle.cast_test.specs.Test.{castAt}
@@ -201,24 +200,7 @@ tested-cast ring p i seen r r′ h b c = ap (λ (z : RaycastResult). cast z seen
 
 -- ---- a number that was read ends inside the part
 pub read-within : (bytes : List ℕ) (end p v q : ℕ) → readUvarint 64 (take end bytes) p ≡ Value v q → q ≤ end
-unfolding readUvarint
-read-within bytes end p v q e = go (leb (size field) (min (most 64) (length field))) refl e
-  where
-    field : List ℕ
-    field = drop p (take end bytes)
-
-    place : (a b c d : ℕ) → Value a b ≡ Value c d → b ≡ d
-    place a b c d h = cc
-
-    never : (why : Refusal) (c d : ℕ) → Unread why ≡ Value c d → ⊥
-    never why c d h = let z : _≡_ {A = ℕ} 0 1 = cc in omega arith
-
-    go : (t : Bool) → leb (size field) (min (most 64) (length field)) ≡ t → cond t (Value (decode field % 2 ^ 64) (p + size field)) (Unread (Damaged p)) ≡ Value v q → q ≤ end
-    go true l h =
-        let s = place _ _ _ _ h in
-        let m = leb-true (size field) (min (most 64) (length field)) l in
-        omega (arith, size-some field, length-drop p (take end bytes), length-take end bytes)
-    go false l h = absurd (never _ _ _ h)
+read-within bytes end p v q e = omega (arith, read-onward 64 (take end bytes) p v q e, length-take end bytes)
 
 -- ---- a quadrant, as the code meets it
 module _ (step : Step) (bytes : List ℕ) (ring : ℕ → Float) (segments : ℕ) (y : Float) (left : ℕ) (box : Rect) (end q p : ℕ) (s : Seen) (o : List ℕ) (size from : ℕ)

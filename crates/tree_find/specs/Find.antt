@@ -30,7 +30,7 @@ use Rattle.tree_find.specs.declared.TreeListed.the-variants.{TreeFound, 
 abbrev pub Outcome : Type 0
 Outcome = TreeListed × List ℕ
 
--- 8 and 9 "fill all output .. with zeros"; the room is for n numbers
+-- 8, 9 and 15 (CR 6) "fill all output .. with zeros"; the room is for n numbers
 abbrev pub refused : Refusal → ℕ → Outcome
 refused why n = (TreeUnlisted why, replicate n 0)
 
@@ -39,7 +39,7 @@ abbrev pub ended : List ℕ → End → ℕ → Outcome
 ended found (ends p) n = (TreeFound (length found), pad n found)
 ended found (fails why) n = refused why n
 
--- "8 and 9 are met in working order, whichever comes first": the numbers found stand before the damage
+-- "8, 9 and 15 (CR 6) are met in working order, whichever comes first": the numbers found stand before the damage
 unfoldable pub answered : ℕ → Found → Outcome
 answered n found = cond (leb (length (found .0)) n) (ended (found .0) (found .1) n) (refused NoRoom n)
 

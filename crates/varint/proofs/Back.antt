@@ -1,38 +1,39 @@
 -- Reading what was written gives the number back, and the next place, over the width.
-use Prim.Native.Nat.{ℕ, _+_, _-_, _%_, _^_, _≤_, _<_, min}
-use mathlib.Core.Path.{_≡_, ap, ap₂, _∙_}
+use Prim.Native.Nat.{ℕ, _+_, _-_, _^_, _≤_, _<_}
+use mathlib.Core.Path.{_≡_, refl, ap, ap₂, _∙_}
 use mathlib.Core.List.{List, _++_, append-assoc}
+use mathlib.Core.Bool.{true}
 use native.Mathlib.Omega.{arith}
-use native.Mathlib.Nat.{mod-eq-of-lt}
 use lib.ListN.{length, take, drop, replicate, length-append}
 use lib.Seq.{drop-at, length-take-le}
 use lib.Dec.{lit<}
-use borrow.Author.Tests.{le-leb}
+use borrow.Author.Tests.{eq-eqb, lt-ltb}
 use Rattle.room.specs.Room.{write, Holds, pad}
 use Rattle.room.specs.Inner.Pour.{putOf}
 use Rattle.room.specs.declared.Put.the-variants.{Past}
 use Rattle.room.proofs.Holds.{drop-holds, holds-drop, holds-take, holds-write}
 use Rattle.room.proofs.Pour.{put-past}
-use Rattle.varint.specs.Leb128.{size, encode}
-use Rattle.varint.specs.Uvarint.{most, readUvarint, appendUvarint}
+use Rattle.varint.specs.Leb128.{decode, size, encode}
+use Rattle.varint.specs.Uvarint.{tight, readUvarint, appendUvarint}
 use Rattle.varint.specs.declared.ReadUvarint.the-variants.{Value}
 use Rattle.varint.specs.declared.AppendUvarint.the-variants.{Appended}
 use Rattle.varint.proofs.Leb128.{encode-back, encode-size, encode-width}
 use Rattle.varint.proofs.Writing.{appended}
+use Rattle.varint.proofs.Answers.{read-fits}
 
 module _ (w : ℕ) (bits : 0 < w) (x : ℕ) (small : x < 2 ^ w) where
   -- wherever a number's bytes stand in a part, whatever stands around them
   pub holds-reads : (part : List ℕ) (at : ℕ) → Holds part at (encode x)
       → readUvarint w part at ≡ Value x (at + length (encode x))
-  unfolding readUvarint
   holds-reads part at h =
       let rest = drop (at + length (encode x)) part in
-      let s = encode-size rest x in
-      let fits : size (encode x ++ rest) ≤ min (most w) (length (encode x ++ rest))
-      = omega (arith, encode-width w x bits small, length-append (encode x) rest) in
-      rw (holds-drop part at (encode x) h, le-leb (size (encode x ++ rest)) (min (most w) (length (encode x ++ rest))) fits)
-      (ap₂ (λ (d k : ℕ). Value (d % 2 ^ w) (at + k)) (encode-back rest x) s
-      ∙ ap (λ (d : ℕ). Value d (at + length (encode x))) (mod-eq-of-lt small))
+      let f = holds-drop part at (encode x) h in
+      let s : size (drop at part) ≡ length (encode x) = ap size f ∙ encode-size rest x in
+      let d : decode (drop at part) ≡ x = ap decode f ∙ encode-back rest x in
+      let l = ap length f ∙ length-append (encode x) rest in
+      let good : tight w (drop at part) ≡ true = rw (s, d, eq-eqb (length (encode x)) (length (encode x)) refl, lt-ltb x (2 ^ w) small) in
+      read-fits w part at (omega (arith, encode-width w x bits small)) good
+      ∙ ap₂ (λ (v k : ℕ). Value v (at + k)) d s
 
   -- a number written where it fits, in any part that has it whole
   pub written-reads : (out : List ℕ) (at end : ℕ) → at + length (encode x) ≤ end → at + length (encode x) ≤ length out

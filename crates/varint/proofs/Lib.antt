@@ -1,9 +1,11 @@
 pub mod Leb128
 pub mod Length
 pub mod Weights
+pub mod Shortest
 pub mod Reading
 pub mod Writing
 pub mod Answers
 pub mod Back
+pub mod Inverse
 pub mod Samples
 pub mod Unique

@@ -2,7 +2,7 @@
 use mathlib.Core.Path.{_≡_, refl}
 use mathlib.Core.List.{[], _∷_, _++_}
 use lib.ListN.{replicate}
-use Rattle.answers.specs.declared.Refusal.the-variants.{NoRoom, Damaged}
+use Rattle.answers.specs.declared.Refusal.the-variants.{NoRoom, Damaged, Loose}
 use Rattle.room.specs.Room.{pad}
 use Rattle.varint.specs.Leb128.{decode, size, encodeIn, encode}
 use Rattle.varint.specs.Uvarint.{readUvarint, appendUvarint}
@@ -14,19 +14,19 @@ pub encode-300 : encode 300 ≡ 0xAC ∷ 0x02 ∷ []
 unfolding encode encodeIn
 encode-300 = refl
 
--- "80 00 reads 0"
-pub read-80-00 : readUvarint 64 (0x80 ∷ 0x00 ∷ []) 0 ≡ Value 0 2
-unfolding readUvarint decode size
+-- "80 00 refuses 15, place 0 (CR 6)"
+pub read-80-00 : readUvarint 64 (0x80 ∷ 0x00 ∷ []) 0 ≡ Unread (Loose 0)
+unfolding readUvarint decode size encode encodeIn
 read-80-00 = refl
 
--- "Nine FF then 7F, or then 01, reads 18,446,744,073,709,551,615"
-pub read-7F : readUvarint 64 (replicate 9 0xFF ++ 0x7F ∷ []) 0 ≡ Value 18446744073709551615 10
-unfolding readUvarint decode size
-read-7F = refl
-
+-- "Nine FF then 01 reads 18,446,744,073,709,551,615; nine FF then 7F refuses 15, place 0 (CR 6)"
 pub read-01 : readUvarint 64 (replicate 9 0xFF ++ 0x01 ∷ []) 0 ≡ Value 18446744073709551615 10
-unfolding readUvarint decode size
+unfolding readUvarint decode size encode encodeIn
 read-01 = refl
+
+pub read-7F : readUvarint 64 (replicate 9 0xFF ++ 0x7F ∷ []) 0 ≡ Unread (Loose 0)
+unfolding readUvarint decode size encode encodeIn
+read-7F = refl
 
 -- "Ten bytes 80: ends early. Eleven: too long. Both 9."
 pub read-ten : readUvarint 64 (replicate 10 0x80) 0 ≡ Unread (Damaged 0)

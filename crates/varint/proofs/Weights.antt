@@ -1,12 +1,14 @@
 -- The weights of a number's bytes: 1, 128, .. Where n more bytes may come and the next one's weight is v, the last one's
 -- is v * 128 ^ (n - 1). What the bytes so far stand for is below v.
-use Prim.Native.Nat.{ℕ, zero, suc, _+_, _-_, _*_, _%_, _^_, _≤_, _<_}
-use mathlib.Core.Path.{_≡_, sym, _∙_}
+use Prim.Native.Nat.{ℕ, zero, suc, _+_, _-_, _*_, _^_, _≤_, _<_}
+use mathlib.Core.Path.{_≡_, refl, sym, _∙_}
+use mathlib.Core.Bool.{true, false, _||_, true≢false}
+use mathlib.Core.Logic.{_⊎_, inl, inr}
 use native.Mathlib.Omega.{arith}
 use native.Mathlib.Nat.{pow-succ', mul-assoc, mul-one, mul-le-mul-left, mul-le-mul-right, not-suc-le-zero, one-le-pow}
 use native.Mathlib.Numerals.{sub-one}
-use lib.Dec.{lit<}
-use lib.Pow.{mod-pow-add, high, low}
+use lib.Dec.{lit<, ltb, eqb}
+use borrow.Author.Tests.{ltb-true, ltb-false, ne-eqb}
 
 -- v is the next weight, and top the last
 unfoldable pub Weight : ℕ → ℕ → ℕ → Type 0
@@ -42,8 +44,11 @@ module _ (top : ℕ) where
   pub below-top : (x v n b : ℕ) → x < v → 1 < n → Weight top n v → b < 128 → x + b * v < top
   below-top x v n b h l e k = omega (arith, digit x v b h k, weight-128 n v l e)
 
--- The last byte over the width: behind k bits only its lowest r bits have a place in r + k.
-pub last-byte : (r k x b : ℕ) → x < 2 ^ k → (x + b * 2 ^ k) % 2 ^ (r + k) ≡ x + b % 2 ^ r * 2 ^ k
-last-byte r k x b h =
-    let e : x + b * 2 ^ k ≡ b * 2 ^ k + x = omega arith in
-    rw e (mod-pow-add (b * 2 ^ k + x) r k ∙ rw (high b k h, low b k h) (omega arith))
+-- Of a tenth byte's seven bits only the lowest has a place below 2 ^ 64, and where it is 0 the byte adds nothing.
+pub loose-tenth : (b : ℕ) → (eqb b 0 || ltb 1 b) ≡ true → (b ≡ 0) ⊎ (1 < b)
+loose-tenth zero e = inl refl
+loose-tenth (suc b) e = inr (ltb-true 1 (suc b) (rw (ne-eqb (suc b) 0 (λ z. omega arith)) at e))
+
+pub tight-tenth : (b : ℕ) → (eqb b 0 || ltb 1 b) ≡ false → b ≡ 1
+tight-tenth zero e = absurd (true≢false e)
+tight-tenth (suc b) e = let l = ltb-false 1 (suc b) (rw (ne-eqb (suc b) 0 (λ z. omega arith)) at e) in omega arith

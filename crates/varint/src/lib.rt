@@ -9,6 +9,7 @@ ghost use Prim.Native.Nat.{_+_, _≤_, min};
 ghost use lib.ListN.{length, take};
 ghost use Rattle.room.specs.Room.{write};
 ghost use Rattle.room.specs.Inner.Pour.{putOf};
+ghost use Rattle.varint.specs.Bytes.{Bytes};
 ghost use Rattle.varint.specs.Leb128.{encode};
 ghost use Rattle.varint.specs.Uvarint.{readUvarint, appendUvarint};
 
@@ -31,7 +32,8 @@ fn lesser(a: usize, b: usize) -> usize
 }
 
 // Reads the number that starts at `at` in the part of `src` that ends before `end`. An `end` past
-// the slice counts as the slice's end, and an `at` from the part's end on finds no byte.
+// the slice counts as the slice's end, and an `at` from the part's end on finds no byte. A number
+// that ends, but is longer than it has to be or above 64 bits, is loose.
 pub fn read_uvarint(src: &[u8], at: usize, end: usize) -> ReadUvarint
     ensures { λ r. ⌜ r ≡ readUvarint 64 (take end (now (src .entry))) at ⌝ }
 {
@@ -46,6 +48,9 @@ pub fn read_uvarint(src: &[u8], at: usize, end: usize) -> ReadUvarint
         }
         let b = src[p] as u64;
         if b < 128 {
+            if (b == 0) & (at < p) {
+                return ReadUvarint::Unread(Refusal::Loose(at));
+            }
             return ReadUvarint::Value(x + b * weight, p + 1);
         }
         x += (b - 128) * weight;
@@ -58,10 +63,13 @@ pub fn read_uvarint(src: &[u8], at: usize, end: usize) -> ReadUvarint
         return ReadUvarint::Unread(Refusal::Damaged(at));
     }
     let b = src[p] as u64;
-    if b < 128 {
-        return ReadUvarint::Value(x + b % 2 * weight, p + 1);
+    if 128 <= b {
+        return ReadUvarint::Unread(Refusal::Damaged(at));
     }
-    ReadUvarint::Unread(Refusal::Damaged(at))
+    if (b == 0) | (1 < b) {
+        return ReadUvarint::Unread(Refusal::Loose(at));
+    }
+    ReadUvarint::Value(x + b * weight, p + 1)
 }
 
 // How many bytes a number takes, seven of its bits a byte. The lowest bit counts as set, which gives
@@ -118,5 +126,15 @@ pub fn append_uvarint(out: &mut [u8], at: usize, x: u64) -> AppendUvarint
             zero_from_u8(out, 0);
             AppendUvarint::Unappended(Refusal::NoRoom)
         }
+    }
+}
+
+// Whatever is lent as a slice of u8 is a list of bytes, which the laws of reading and writing take
+// for granted. No program needs to call it: its promise is what those laws are cited with.
+pub fn lent_bytes(src: &[u8])
+    ensures { λ _. ⌜ Bytes (now (src .entry)) ⌝ }
+{
+    if 0 < src.len() {
+        let first = src[0];
     }
 }

@@ -28,6 +28,8 @@ pub enum Refusal {
     /// The index is damaged where it was read: the place in the ring's own list, or among its bytes; 0 also
     /// where there is no stripe, or where a part of the index does not lie wholly in its room.
     Damaged { place: u64 },
+    /// A number in a tree's bytes is not in its shortest form, or is over 64 bits: the place of its first byte among the ring's own bytes.
+    Loose { place: u64 },
 }
 
 /// The place that refusal 2 gives when there are too many rings.
@@ -47,6 +49,7 @@ impl Refusal {
             7 => Refusal::BadHeight,
             8 => Refusal::NoRoom,
             9 => Refusal::Damaged { place },
+            15 => Refusal::Loose { place },
             _ => return None,
         })
     }
@@ -62,6 +65,7 @@ impl Refusal {
             Refusal::BadHeight => 7,
             Refusal::NoRoom => 8,
             Refusal::Damaged { .. } => 9,
+            Refusal::Loose { .. } => 15,
         }
     }
 
@@ -72,7 +76,7 @@ impl Refusal {
             | Refusal::TooManyPoints { ring }
             | Refusal::NotClosed { ring }
             | Refusal::BeyondLimit { ring } => ring,
-            Refusal::Damaged { place } => place,
+            Refusal::Damaged { place } | Refusal::Loose { place } => place,
             Refusal::SizesDiffer | Refusal::BadScale | Refusal::BadHeight | Refusal::NoRoom => 0,
         }
     }
@@ -95,6 +99,7 @@ impl fmt::Display for Refusal {
             Refusal::BadHeight => write!(f, "the height is not a finite number"),
             Refusal::NoRoom => write!(f, "the room is too small for what is called for"),
             Refusal::Damaged { place } => write!(f, "the index is damaged at place {place}"),
+            Refusal::Loose { place } => write!(f, "the tree's number at byte {place} is not in its shortest form"),
         }
     }
 }
@@ -107,7 +112,7 @@ mod tests {
 
     #[test]
     fn numbers_and_places_come_back() {
-        for number in 1..=9 {
+        for number in (1..=9).chain([15]) {
             for place in [0, 1, 63, 64, 4096] {
                 let refusal = Refusal::of(number, place).expect("a number of the table");
                 assert_eq!(refusal.number(), number);
@@ -116,7 +121,7 @@ mod tests {
                 assert_eq!(refusal.place(), told, "refusal {number}");
             }
         }
-        for number in [0, 10, 11, 99, u32::MAX] {
+        for number in [0, 10, 11, 14, 16, 99, u32::MAX] {
             assert_eq!(Refusal::of(number, 0), None);
         }
     }
@@ -135,6 +140,7 @@ mod tests {
             (7, 0, "refusal 7: the height is not a finite number"),
             (8, 0, "refusal 8: the room is too small for what is called for"),
             (9, 41, "refusal 9: the index is damaged at place 41"),
+            (15, 3, "refusal 15: the tree's number at byte 3 is not in its shortest form"),
         ];
         for (number, place, text) in words {
             assert_eq!(Refusal::of(number, place).expect("a number of the table").to_string(), text);

@@ -252,6 +252,10 @@ mod tests {
         tree.bytes[5] = 2;
         let refused = Err(Refusal::Damaged { place: 5 });
         assert_eq!(ring.contains_by_tree(&tree, 5.0, 5.0, Edge::Allowed), refused);
+        tree.bytes = vec![4, 0x80, 0, 1, 1, 1, 0];
+        let refused = Err(Refusal::Loose { place: 1 });
+        assert_eq!(ring.contains_by_tree(&tree, 5.0, 5.0, Edge::Allowed), refused);
+        assert_eq!(ring.list_by_tree(&tree, 5.0), refused.map(|_: bool| vec![]));
     }
 
     /// Thirteen segments that are all one point make a tree of depth 64: more room than the first attempt.

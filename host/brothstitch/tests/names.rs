@@ -51,6 +51,7 @@ fn numbers_of_the_header() {
         ("BAD_HEIGHT", Refusal::BadHeight),
         ("NO_ROOM", Refusal::NoRoom),
         ("DAMAGED", Refusal::Damaged { place: 0 }),
+        ("LOOSE", Refusal::Loose { place: 0 }),
     ];
     for (name, refusal) in refusals {
         assert_eq!(number(name), refusal.number() as usize, "{name}");

@@ -129,7 +129,7 @@ pub struct ListTree<'a> {
 
 impl Call for ListTree<'_> {
     const NAME: &'static str = "list_tree";
-    const ANSWERS: &'static [u32] = &[0, 101, 102, 103, 104, 107, 108, 109];
+    const ANSWERS: &'static [u32] = &[0, 101, 102, 103, 104, 107, 108, 109, 115];
 
     #[rustfmt::skip]
     fn ours(&self, s: &mut Slices) -> u32 {
@@ -223,7 +223,7 @@ pub struct RingTree<'a> {
 
 impl Call for RingTree<'_> {
     const NAME: &'static str = "ring_tree";
-    const ANSWERS: &'static [u32] = &[0, 1, 101, 102, 103, 104, 109];
+    const ANSWERS: &'static [u32] = &[0, 1, 101, 102, 103, 104, 109, 115];
 
     #[rustfmt::skip]
     fn ours(&self, s: &mut Slices) -> u32 {
@@ -508,7 +508,7 @@ pub struct Inside<'a> {
 
 impl Call for Inside<'_> {
     const NAME: &'static str = "inside";
-    const ANSWERS: &'static [u32] = &[0, 1, 101, 102, 103, 104, 105, 106, 109];
+    const ANSWERS: &'static [u32] = &[0, 1, 101, 102, 103, 104, 105, 106, 109, 115];
 
     #[rustfmt::skip]
     fn ours(&self, s: &mut Slices) -> u32 {

@@ -210,8 +210,9 @@ pub fn good_pools(rings: &Rings, options: u32, threshold: usize, needs: [usize; 
 /// Another choice of indexes, something wrong in one pool, or something else altogether.
 pub fn damaged_pools(random: &mut Random, good: &Pools) -> Pools {
     let mut pools = good.clone();
-    match random.below(16) {
+    match random.below(18) {
         12..=15 => damaged_part(random, &mut pools),
+        16 | 17 => loose_trees(&mut pools),
         // each ring without some of what it has
         0..=2 => {
             for numbers in pools.table.chunks_exact_mut(outline::COLUMNS) {
@@ -238,6 +239,16 @@ pub fn damaged_pools(random: &mut Random, good: &Pools) -> Pools {
         }
     }
     pools
+}
+
+/// Each ring with its tree alone, whose first number is written in a longer form.
+fn loose_trees(pools: &mut Pools) {
+    for row in pools.table.chunks_exact_mut(outline::COLUMNS) {
+        row[2] &= 2;
+        if let [first, second, ..] = &mut pools.bytes[row[8] as usize..][..row[9] as usize] {
+            (*first, *second) = (*first | 0x80, 0);
+        }
+    }
 }
 
 /// One ring's part of a pool damaged throughout, so that whoever reads it meets it.

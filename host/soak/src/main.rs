@@ -11,7 +11,7 @@ use cases::Random;
 use lent::Lending;
 use std::process::ExitCode;
 use std::time::Instant;
-use tally::Tally;
+use tally::{Tally, REFUSALS};
 
 const HELP: &str = "\
 soak: calls the library's C interface with numbers, sizes, floats and indexes of every kind, good and bad.
@@ -82,14 +82,15 @@ fn run(options: &Options) -> Result<String, String> {
     }
     println!("{}", tally.table());
     let unmet = tally.unmet();
-    let (calls, seconds, met) = (tally.calls(), start.elapsed().as_secs(), tally.refusals());
+    let (calls, seconds, met, all) = (tally.calls(), start.elapsed().as_secs(), tally.refusals(), REFUSALS.len());
     if !unmet.is_empty() {
-        return Err(format!("{calls} calls agree, but not all was met ({met} of 9 refusals):\n{}", unmet.join("\n")));
+        let missing = unmet.join("\n");
+        return Err(format!("{calls} calls agree, but not all was met ({met} of {all} refusals):\n{missing}"));
     }
     let guards = if options.lending.zone > 0 { "no guard touched" } else { "no guard zones" };
     Ok(format!(
         "soak: {calls} calls on {boards} boards in {seconds} s, seed {}: no difference, {guards}, \
-         {met} of 9 refusals met, every answer of every call met",
+         {met} of {all} refusals met, every answer of every call met",
         options.seed
     ))
 }

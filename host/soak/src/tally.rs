@@ -6,14 +6,17 @@ use std::fmt::Write;
 
 /// What is no refusal: no, yes, and a ring without a turn.
 const SAID: usize = 3;
-/// These, and the refusals 1 to 9.
-const COLUMNS: usize = SAID + 9;
+
+/// The refusals that a call of the C interface can give.
+pub const REFUSALS: [u32; 10] = [1, 2, 3, 4, 5, 6, 7, 8, 9, 15];
+
+/// What is said, and the refusals.
+const COLUMNS: usize = SAID + REFUSALS.len();
 
 fn column(code: u32) -> Option<usize> {
     match code {
         0..=2 => Some(code as usize),
-        101..=109 => Some(code as usize - 101 + SAID),
-        _ => None,
+        _ => REFUSALS.iter().position(|n| 100 + n == code).map(|i| SAID + i),
     }
 }
 
@@ -92,7 +95,7 @@ impl Tally {
     /// The counts, a line for each call.
     pub fn table(&self) -> String {
         let mut text = format!("{:<14}{:>11}{:>11}{:>11}{:>11}", "call", "calls", "0", "1", "2");
-        (1..=9).for_each(|n| write!(text, "{:>10}", format!("ref. {n}")).expect("a string takes all"));
+        REFUSALS.iter().for_each(|n| write!(text, "{:>10}", format!("ref. {n}")).expect("a string takes all"));
         let mut sums = [0; COLUMNS];
         let mut line = |name: &str, counts: &[u64; COLUMNS]| {
             write!(text, "\n{name:<14}{:>11}", counts.iter().sum::<u64>()).expect("a string takes all");
@@ -119,7 +122,7 @@ impl Tally {
         unmet
     }
 
-    /// How many of the refusals 1 to 9 were met.
+    /// How many of the refusals were met.
     pub fn refusals(&self) -> usize {
         (SAID..COLUMNS).filter(|&i| self.rows.iter().any(|row| row.counts[i] > 0)).count()
     }

@@ -25,11 +25,17 @@ pub fn answer(question: &str) -> Result<Option<String>, Wrong> {
     Ok(Some(answer))
 }
 
-/// The Rust reads to the end of its data, so it is given the part. It finds a number or none.
+/// The Rust reads to the end of its data, so it is given the part. It finds a number or none; a form that is loose, which it takes, has the model's
+/// refusal 15 (CR 6).
 fn read(data: &[u8], at: usize, end: usize) -> String {
-    match open::read_uvarint(&data[..end.min(data.len())], at) {
-        Some((x, next)) => format!("{} {}", number(x), number(next as u64)),
-        None => refused((9, at as u64)),
+    let part = &data[..end.min(data.len())];
+    match (open::read_uvarint(part, at), model::varint::read(part, at)) {
+        (Some(_), Err(no)) => {
+            assert_eq!(no.0, 15, "the Rust reads what the model refuses otherwise");
+            refused(no)
+        }
+        (Some((x, next)), Ok(_)) => format!("{} {}", number(x), number(next as u64)),
+        (None, _) => refused((9, at as u64)),
     }
 }
 
@@ -59,7 +65,7 @@ mod tests {
         for (question, expected) in [
             ("next_up bff0000000000000", "bfefffffffffffff"),
             ("read_uvarint ac02 0 2", "000000000000012c 0000000000000002"),
-            ("read_uvarint 8000 0 2", "0000000000000000 0000000000000002"),
+            ("read_uvarint 8000 0 2", "refused 000000000000000f 0000000000000000"),
             ("read_uvarint 80808080808080808080 0 a", "refused 0000000000000009 0000000000000000"),
             ("append_uvarint ffffffff 1 12c", "0000000000000003 ffac0200"),
             ("append_uvarint ffff 1 12c", "refused 0000000000000008 0000000000000000 0000"),

@@ -89,6 +89,30 @@ fn places() -> Vec<Read> {
     reads
 }
 
+/// Every byte string of up to so many bytes.
+pub fn every_string(most: u32, mut ask: impl FnMut(&[u8])) {
+    for length in 0..=most {
+        for n in 0..1_u32 << (8 * length) {
+            ask(&n.to_le_bytes()[..length as usize]);
+        }
+    }
+}
+
+/// Ten and eleven bytes with every choice of continuation bits; their other bits are 0, 1 or 127 throughout, and so often random.
+pub fn every_run(random: &mut Random, times: usize, mut ask: impl FnMut(Read)) {
+    for length in [limits::VARINT_BYTES, limits::VARINT_BYTES + 1] {
+        for bits in 0..1_u32 << length {
+            let more = |k: usize| ((bits >> k & 1) as u8) << 7;
+            for low in [0, 1, 0x7f] {
+                ask(Read::whole((0..length).map(|k| more(k) | low).collect()));
+            }
+            for _ in 0..times {
+                ask(Read::whole((0..length).map(|k| more(k) | random.next() as u8 & 0x7f).collect()));
+            }
+        }
+    }
+}
+
 /// Some numbers in a row, good or not, and a place and an end somewhere in them.
 pub fn random_read(random: &mut Random) -> Read {
     let mut bytes = Vec::new();

@@ -6,6 +6,7 @@ pub mod outline;
 pub mod ring;
 pub mod stripes;
 pub mod tree;
+pub mod varint;
 
 /// A refusal's number and place.
 pub type No = (u32, u64);
@@ -22,9 +23,9 @@ pub fn damaged(place: usize) -> No {
     (9, place as u64)
 }
 
-/// Refusals 1 to 7 touch no lent room; 8 and 9 fill it with zeros.
+/// Refusals 1 to 7 touch no lent room; 8, 9 and 15 fill it with zeros.
 pub fn leaves_zeros(no: No) -> bool {
-    matches!(no.0, 8 | 9)
+    matches!(no.0, 8 | 9 | 15)
 }
 
 /// Puts what a call found into the room that it was lent, with zeros behind it.
@@ -47,7 +48,7 @@ pub struct Found {
 }
 
 impl Found {
-    /// A list call that is lent so much room: 8 and 9 are met in working order, and all that was found
+    /// A list call that is lent so much room: 8, 9 and 15 are met in working order, and all that was found
     /// stands before the damage.
     pub fn listed(self, room: &mut [u32]) -> Count {
         let no = if self.list.len() > room.len() { Some(NO_ROOM) } else { self.damage };

@@ -1,7 +1,7 @@
 //! The packed tree.
 
 use crate::ring::{test_listed, Ring};
-use crate::{damaged, pour, Answer, Count, Found, No, NO_ROOM};
+use crate::{damaged, pour, varint, Answer, Count, Found, No, NO_ROOM};
 use cases::limits;
 use cases::varints::encode;
 
@@ -113,14 +113,7 @@ struct Reading<'a> {
 impl Reading<'_> {
     /// The number at a place of a part that ends before `end`, and the place past it.
     fn varint(&self, at: usize, end: usize) -> Result<(u64, usize), No> {
-        let mut value = 0_u128;
-        for (k, &byte) in self.bytes[..end].iter().skip(at).take(limits::VARINT_BYTES).enumerate() {
-            value += u128::from(byte % 128) << (7 * k);
-            if byte < 128 {
-                return Ok((value as u64, at + k + 1));
-            }
-        }
-        Err(damaged(at))
+        varint::read(&self.bytes[..end], at)
     }
 
     /// Reads a node's part; what it finds is added.

@@ -75,6 +75,7 @@ fn packed_bytes_and_varints() {
     let mut bytes = Vec::new();
     open::append_uvarint(&mut bytes, 300);
     assert_eq!(bytes, [0xac, 2]);
+    // the Rust reads what is loose, which CR 6 refuses
     assert_eq!(open::read_uvarint(&[0x80, 0], 0), Some((0, 2)));
     for last in [0x7f, 1] {
         let run = [[0xff; 9].as_slice(), &[last]].concat();

@@ -234,6 +234,7 @@ const KEPT: &str = "damage: the Rust keeps what it found, here it is refusal 9";
 const LEFT: &str = "bytes left over: the Rust takes them, here it is refusal 9";
 const UNCONFINED: &str = "a child read past its own part: the Rust reads on, here it is refusal 9";
 const PAST: &str = "a child past its parent's part: the Rust takes it, here it is refusal 9";
+const LOOSE: &str = "a loose varint in a tree: the Rust reads it, here it is refusal 15";
 const DEEP: &str = "a child in a node at depth 64: the Rust reads it, here it is refusal 9";
 
 /// A leaf with segment 0, this many levels down by south-west quadrants.
@@ -246,28 +247,35 @@ fn deep(levels: usize) -> Vec<u8> {
 
 /// What the Rust takes where 01 refuses, each with the smallest bytes found: S at height 0.
 fn differ(_: Plan) -> bool {
-    let mut family = Family::new("tree_differ", &[KEPT, LEFT, UNCONFINED, PAST, DEEP]);
+    let mut family = Family::new("tree_differ", &[KEPT, LEFT, UNCONFINED, PAST, DEEP, LOOSE]);
     let ring = rings::sheet_square();
     let (lent, rust) = (lent::Lent::of(&ring), rust_ring(&ring));
     let bounds = rust_tree(&rust).bounds;
-    let mut ask = |what: &'static str, bytes: &[u8], place: u64, found: &[u32]| {
+    let mut ask = |what: &'static str, bytes: &[u8], no: No, found: &[u32]| {
         let mut room = [7; 4];
         let ours: Result<Vec<u32>, No> =
             calls::list_tree(lent_as(&lent), bytes, 0.0, &mut room).map(|(_, n)| room[..n as usize].to_vec());
         let tree = open::Tree { bounds, bytes: bytes.to_vec() };
         let theirs = Ok(tree.list(&rust, 0.0).0.into_iter().map(|i| i as u32).collect());
-        family.recorded(what, [ours, theirs], [Err((9, place)), Ok(found.to_vec())]);
+        family.recorded(what, [ours, theirs], [Err(no), Ok(found.to_vec())]);
     };
-    ask(KEPT, &[4, 0, 1, 1, 1], 5, &[0, 1, 3]);
-    ask(KEPT, &[4, 0, 1, 1, 1, 2], 5, &[0, 1, 3]);
-    ask(KEPT, &[4, 0, 1, 1, 2, 0], 4, &[0, 1]);
-    ask(LEFT, &[4, 0, 1, 1, 1, 0, 0], 6, &[0, 1, 3]);
+    ask(KEPT, &[4, 0, 1, 1, 1], (9, 5), &[0, 1, 3]);
+    ask(KEPT, &[4, 0, 1, 1, 1, 2], (9, 5), &[0, 1, 3]);
+    ask(KEPT, &[4, 0, 1, 1, 2, 0], (9, 4), &[0, 1]);
+    ask(LEFT, &[4, 0, 1, 1, 1, 0, 0], (9, 6), &[0, 1, 3]);
     // the child of size 1 is read to its third byte
-    ask(UNCONFINED, &[0, 1, 0, 0, 1, 1, 0, 0], 6, &[0]);
+    ask(UNCONFINED, &[0, 1, 0, 0, 1, 1, 0, 0], (9, 6), &[0]);
     // the inner child's size 3 goes past the outer child's part of 5
-    ask(PAST, &[0, 1, 0, 0, 5, 0, 1, 0, 0, 3, 1, 0, 0, 0], 9, &[0]);
+    ask(PAST, &[0, 1, 0, 0, 5, 0, 1, 0, 0, 3, 1, 0, 0, 0], (9, 9), &[0]);
     // 65 levels of 00 01 00 00 SIZE .. 00 round a leaf; the 65th size stands at byte 368
-    ask(DEEP, &deep(limits::DEPTH + 1), 368, &[0]);
+    ask(DEEP, &deep(limits::DEPTH + 1), (9, 368), &[0]);
+    // the count, a difference and a child's size, each longer than it needs to be
+    ask(LOOSE, &[0x84, 0, 0, 1, 1, 1, 0], (15, 0), &[0, 1, 3]);
+    ask(LOOSE, &[4, 0x80, 0, 1, 1, 1, 0], (15, 1), &[0, 1, 3]);
+    ask(LOOSE, &[4, 0, 1, 1, 1, 1, 0, 0x80, 0x80, 0, 0, 0], (15, 7), &[0, 1, 3]);
+    // told before the value is used: it is not below the count; goes past the part
+    ask(LOOSE, &[4, 0, 1, 1, 0x82, 0, 0], (15, 4), &[0, 1]);
+    ask(LOOSE, &[4, 0, 1, 1, 1, 1, 0, 0, 0x8a, 0, 0], (15, 8), &[0, 1, 3]);
     let mut room = [7; 4];
     let ours = calls::list_tree(lent_as(&lent), &deep(limits::DEPTH), 0.0, &mut room);
     family.same((ours, room), (Ok((false, 1)), [0, 0, 0, 0]), || "a leaf at depth 64".to_string());
