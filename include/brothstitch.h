@@ -44,12 +44,12 @@
  *        point (or the record of boxes is short)
  *     4  a ring's first and last point differ                          ring
  *     5  scale not finite, or not above 0                              0
- *     6  Integer mode and a coordinate beyond 1,073,741,823            ring
  *     7  a list at a height that is not finite                         0
  *     8  lent room too small, or over 65,536 stripes called for        0
  *     9  index damaged where it was read                               where
  *    15  a number in a packed tree that is longer than it has to be,   its first
  *        or over 64 bits                                               byte
+ * 6 is withdrawn: no call gives it, and its number stands for nothing else.
  *
  * Rings are numbered from 0, the exterior first; the lowest at fault is named; checks run in that order,
  * each over all rings before the next. A call on one ring numbers it 0. Refusals 1 to 7 touch no room
@@ -59,7 +59,8 @@
  * What comes again:
  *     coords, points   a ring: two numbers a point, first point equal to last; and its point count
  *     edge             0: a point on the edge is outside; else it is inside
- *     mode             0: Float, rounded arithmetic; else Integer: the query snaps to whole numbers
+ *     mode             0: Float, rounded arithmetic; else Integer: the query snaps to whole numbers, and the
+ *                      test is exact; both take any coordinates, so the record of boxes is one for both
  *     threshold        rings with fewer segments (points less one) get no index
  *     stripes, list    a stripe index: two numbers a stripe, where its part of list starts and how long
  *                      it is; with least and height, the least y and the height of the ring
@@ -170,7 +171,7 @@ uint32_t brothstitch_ring_stripes(const int32_t *coords, size_t coords_len, size
 uint32_t brothstitch_ring_tree(const int32_t *coords, size_t coords_len, size_t points, const uint8_t *bytes,
                                size_t bytes_len, double x, double y, uint32_t edge, uint64_t *value);
 
-/* In whole numbers, exactly; coordinates as in Integer mode. */
+/* In whole numbers, exactly, for any coordinates and any place. */
 uint32_t brothstitch_ring_grid(const int32_t *coords, size_t coords_len, size_t points, int64_t x, int64_t y,
                                uint32_t edge, uint64_t *value);
 

@@ -2,7 +2,7 @@
 use Prim.Native.Nat.{ℕ}
 use mathlib.Core.Bool.{Bool, true, false}
 use Rattle.answers.specs.declared.Refusal.{Refusal}
-use Rattle.answers.specs.declared.Refusal.the-variants.{TooFew, TooMany, SizesDiffer, NotClosed, BadScale, BeyondLimit, BadHeight, NoRoom, Damaged, Loose}
+use Rattle.answers.specs.declared.Refusal.the-variants.{TooFew, TooMany, SizesDiffer, NotClosed, BadScale, BadHeight, NoRoom, Damaged, Loose}
 
 -- the table's first column
 abbrev pub numberOf : Refusal → ℕ
@@ -11,13 +11,12 @@ numberOf (TooMany ring) = 2
 numberOf SizesDiffer = 3
 numberOf (NotClosed ring) = 4
 numberOf BadScale = 5
-numberOf (BeyondLimit ring) = 6
 numberOf BadHeight = 7
 numberOf NoRoom = 8
 numberOf (Damaged at) = 9
 numberOf (Loose at) = 15
 
--- The table's last column. What a case carries is a ring's number for 1, 4 and 6, a ring's number or 64 for 2, and for 9 what 01 gives under "Stripes" and
+-- The table's last column. What a case carries is a ring's number for 1 and 4, a ring's number or 64 for 2, and for 9 what 01 gives under "Stripes" and
 -- "The packed tree": 0, a position in the list or its length, or a byte. For 15 (CR 6) it is the varint's first byte.
 abbrev pub placeOf : Refusal → ℕ
 placeOf (TooFew ring) = ring
@@ -25,7 +24,6 @@ placeOf (TooMany ring) = ring
 placeOf SizesDiffer = 0
 placeOf (NotClosed ring) = ring
 placeOf BadScale = 0
-placeOf (BeyondLimit ring) = ring
 placeOf BadHeight = 0
 placeOf NoRoom = 0
 placeOf (Damaged at) = at
@@ -39,7 +37,6 @@ zeroesRooms (TooMany ring) = false
 zeroesRooms SizesDiffer = false
 zeroesRooms (NotClosed ring) = false
 zeroesRooms BadScale = false
-zeroesRooms (BeyondLimit ring) = false
 zeroesRooms BadHeight = false
 zeroesRooms NoRoom = true
 zeroesRooms (Damaged at) = true

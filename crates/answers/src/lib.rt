@@ -11,7 +11,6 @@ pub enum Refusal {
     SizesDiffer,
     NotClosed(usize),
     BadScale,
-    BeyondLimit(usize),
     BadHeight,
     NoRoom,
     Damaged(usize),
@@ -29,7 +28,6 @@ impl Refusal {
             Refusal::SizesDiffer => 3,
             Refusal::NotClosed(_) => 4,
             Refusal::BadScale => 5,
-            Refusal::BeyondLimit(_) => 6,
             Refusal::BadHeight => 7,
             Refusal::NoRoom => 8,
             Refusal::Damaged(_) => 9,
@@ -37,7 +35,7 @@ impl Refusal {
         }
     }
 
-    // 01's place of the refusal: a ring's number for 1, 4 and 6, a ring's number or 64 for 2, for 9 a
+    // 01's place of the refusal: a ring's number for 1 and 4, a ring's number or 64 for 2, for 9 a
     // byte of a tree or a position in a list of stripes, its length or 0, for 15 a varint's first byte,
     // and 0 for the others.
     pub fn place(self) -> usize
@@ -49,7 +47,6 @@ impl Refusal {
             Refusal::SizesDiffer => 0,
             Refusal::NotClosed(ring) => ring,
             Refusal::BadScale => 0,
-            Refusal::BeyondLimit(ring) => ring,
             Refusal::BadHeight => 0,
             Refusal::NoRoom => 0,
             Refusal::Damaged(at) => at,
@@ -67,7 +64,6 @@ impl Refusal {
             Refusal::SizesDiffer => false,
             Refusal::NotClosed(_) => false,
             Refusal::BadScale => false,
-            Refusal::BeyondLimit(_) => false,
             Refusal::BadHeight => false,
             Refusal::NoRoom => true,
             Refusal::Damaged(_) => true,

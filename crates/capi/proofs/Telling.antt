@@ -3,7 +3,7 @@ use Prim.Native.Nat.{ℕ, _≤_}
 use mathlib.Core.Path.{_≡_, ap, _∙_}
 use native.Mathlib.Omega.{arith}
 use Rattle.answers.specs.declared.Refusal.{Refusal}
-use Rattle.answers.specs.declared.Refusal.the-variants.{TooFew, TooMany, SizesDiffer, NotClosed, BadScale, BeyondLimit, BadHeight, NoRoom, Damaged, Loose}
+use Rattle.answers.specs.declared.Refusal.the-variants.{TooFew, TooMany, SizesDiffer, NotClosed, BadScale, BadHeight, NoRoom, Damaged, Loose}
 use Rattle.answers.specs.Refusals.{numberOf}
 use Rattle.capi.specs.Told.{Told, told}
 
@@ -13,7 +13,6 @@ number-small (TooMany ring) = omega arith
 number-small SizesDiffer = omega arith
 number-small (NotClosed ring) = omega arith
 number-small BadScale = omega arith
-number-small (BeyondLimit ring) = omega arith
 number-small BadHeight = omega arith
 number-small NoRoom = omega arith
 number-small (Damaged at) = omega arith

@@ -5,7 +5,7 @@ use outline_record::make_boxes;
 ghost use mathlib.Core.Path.{_≡_};
 ghost use Rattle.outline_record.specs.Made.{boxesMade};
 ghost use Rattle.capi.specs.Told.{told};
-ghost use Rattle.capi.specs.Outlines.{modeOf, madeTold};
+ghost use Rattle.capi.specs.Outlines.{madeTold};
 
 fn tell_made(answer: Made, value: &mut u64) -> u32
     ensures { λ r. ⌜ madeTold answer ≡ (r, now (value .exit)) ⌝ }
@@ -29,7 +29,7 @@ pub extern "C" fn brothstitch_make(
     boxes: &mut [i32],
     value: &mut u64,
 ) -> u32
-    ensures { λ r. ⌜ told madeTold (boxesMade scale (modeOf mode) (now (sizes .entry)) (now (coords .entry)) (now (boxes .entry))) ≡ ((r, now (value .exit)), now (boxes .exit)) ⌝ }
+    ensures { λ r. ⌜ told madeTold (boxesMade scale (now (sizes .entry)) (now (coords .entry)) (now (boxes .entry))) ≡ ((r, now (value .exit)), now (boxes .exit)) ⌝ }
 {
     let outline = outline_of(scale, mode);
     let answer = make_boxes(outline, sizes, coords, boxes);

@@ -101,7 +101,7 @@ padded n xs = refl
 made : (outline : Outline) (sizes : List ℕ) (coords room : List ℤ) → RecordOf outline sizes coords room → (behind : List ℤ) × (room ≡ boxesOf sizes coords ++ behind)
 made outline sizes coords room (boxes, n, e) = (
   replicate (length boxes - length (boxesOf sizes coords)) (pos 0),
-  made-record (outline .scale) (outline .mode) sizes coords boxes room n e .2 ∙ padded (length boxes) (boxesOf sizes coords),
+  made-record (outline .scale) sizes coords boxes room n e .2 ∙ padded (length boxes) (boxesOf sizes coords),
 )
 
 own : (sizes : List ℕ) (coords : List ℤ) (options : BuildOptions) (t : List ℕ) (sp : List Float) (s l b : List ℕ)

@@ -58,9 +58,9 @@ module _ (ring : List ℤ) (points threshold : ℕ) (stripes list : List ℕ) wh
     builds-stripes ring points threshold stripes list sound reached few enough (omega (arith, own-entries (wide ring) (segments points) few)),
   )
 
-pub record-got : (outline : Outline) (sizes : List ℕ) (coords boxes : List ℤ) → outlineChecked (outline .scale) (outline .mode) sizes coords ≡ Sound
+pub record-got : (outline : Outline) (sizes : List ℕ) (coords boxes : List ℤ) → outlineChecked (outline .scale) sizes coords ≡ Sound
     → 4 * rings sizes ≤ length boxes
-    → (room : List ℤ) × (boxesMade (outline .scale) (outline .mode) sizes coords boxes ≡ (Rings (rings sizes), room))
+    → (room : List ℤ) × (boxesMade (outline .scale) sizes coords boxes ≡ (Rings (rings sizes), room))
 unfolding boxesMade
 record-got outline sizes coords boxes sound roomy = (padZ (length boxes) (boxesOf sizes coords), rw sound (recorded-fits sizes coords boxes roomy))
 

@@ -74,7 +74,7 @@ pub record BuiltIndex (x : Indexes) (k : ℕ) (ring : List ℤ) (points : ℕ) :
 -- `make_boxes` made this record of the outline
 abbrev pub RecordOf : Outline → List ℕ → List ℤ → List ℤ → Type 0
 RecordOf outline sizes coords record-room =
-    (boxes : List ℤ) × (n : ℕ) × (boxesMade (outline .scale) (outline .mode) sizes coords boxes ≡ (Rings n, record-room))
+    (boxes : List ℤ) × (n : ℕ) × (boxesMade (outline .scale) sizes coords boxes ≡ (Rings n, record-room))
 
 -- `build_indexes` left these rooms, by any options
 abbrev pub IndexesOf : List ℕ → List ℤ → BuildOptions → List ℕ → List Float → List ℕ → List ℕ → List ℕ → Type 0
@@ -153,9 +153,9 @@ pub record Demand3 : Type 0 where
   pub gets-tree : (ring : List ℤ) (points threshold : ℕ) (bytes work : List ℕ) → ringChecked ring points ≡ Sound → threshold ≤ segments points
       → length (packed (treeOf (wide ring) points)) ≤ length bytes → workNumbers (wide ring) points ≤ length work
       → (n : ℕ) × (b : List ℕ) × (w : List ℕ) × (treeBuilt ring points threshold bytes work ≡ (Packed n, b, w))
-  pub gets-record : (outline : Outline) (sizes : List ℕ) (coords boxes : List ℤ) → outlineChecked (outline .scale) (outline .mode) sizes coords ≡ Sound
+  pub gets-record : (outline : Outline) (sizes : List ℕ) (coords boxes : List ℤ) → outlineChecked (outline .scale) sizes coords ≡ Sound
       → 4 * rings sizes ≤ length boxes
-      → (room : List ℤ) × (boxesMade (outline .scale) (outline .mode) sizes coords boxes ≡ (Rings (rings sizes), room))
+      → (room : List ℤ) × (boxesMade (outline .scale) sizes coords boxes ≡ (Rings (rings sizes), room))
   pub gets-indexes : (sizes : List ℕ) (coords : List ℤ) (options : BuildOptions) (table : List ℕ) (spans : List Float) (stripes list bytes work : List ℕ)
       → shapeChecked sizes coords ≡ Sound → RoomFor sizes coords options table spans stripes list bytes work
       → (t : List ℕ) × (sp : List Float) × (s : List ℕ) × (l : List ℕ) × (b : List ℕ) × (w : List ℕ)

@@ -1,7 +1,6 @@
 pub mod Shift
 pub mod Far
-pub mod Exact
-pub mod Fields
+pub mod Within
 pub mod Results
 pub mod Meaning
 pub mod Unique

@@ -13,7 +13,7 @@ use Rattle.rings.proofs.Checks.{both}
 use Rattle.grid.specs.Grid.{isOn}
 use Rattle.grid.specs.Meaning.{LiesOn}
 use Rattle.grid.proofs.Shift.{from, plus, minus, betweenN, onN, on-shift, plane}
-use Rattle.grid.proofs.Exact.{between-cases}
+use Rattle.grid.proofs.Within.{between-cases}
 
 -- parts (p - a) = part (b - a), over ℕ
 abbrev Step : ℕ → ℕ → ℕ → ℕ → ℕ → Type 0

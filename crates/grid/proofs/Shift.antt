@@ -9,7 +9,8 @@ use lib.IntN.{ℤ, pos, _-ℤ_, _*ℤ_}
 use lib.Signed.{ltZ, leZ}
 use Rattle.rings.specs.Checks.{eqZ}
 use Rattle.rings.proofs.Whole.{diff, diff-same, diff-sub, diff-mul, lt-shift, le-shift, is-zero, above-zero, shifted}
-use Rattle.grid.specs.Grid.{cross, between, isOn, straddles, isFlip}
+use Rattle.cross.specs.Cross.{cross}
+use Rattle.grid.specs.Grid.{between, isOn, straddles, isFlip}
 
 -- a number at or above another is that and some more
 pub from : (P : ℕ → Type 0) (a b : ℕ) → a ≤ b → ((k : ℕ) → P (a + k)) → P b

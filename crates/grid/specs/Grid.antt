@@ -1,20 +1,12 @@
 -- 01, "Whole-number test", in the mathematical integers, for any ends and any p. The names are 01's: (ax, ay) and (bx, by) are the ends, (px, py) is p.
-use Prim.Native.Nat.{ℕ}
 use mathlib.Core.Bool.{Bool, true, false, not, cond, _&&_, _||_, Bool·beq}
-use mathlib.Core.List.{[], _∷_}
-use lib.IntN.{ℤ, pos, _-ℤ_, _*ℤ_}
+use lib.IntN.{ℤ, pos}
 use lib.Signed.{ltZ, leZ}
 use Rattle.boxes.specs.declared.Segment.{Segment}
-use Rattle.answers.specs.declared.Refusal.the-variants.{BeyondLimit}
-use Rattle.rings.specs.Checks.{eqZ, allWithin}
+use Rattle.rings.specs.Checks.{eqZ}
+use Rattle.cross.specs.Cross.{cross}
 use Rattle.grid.specs.declared.GridResult.{GridResult}
 use Rattle.grid.specs.declared.GridResult.the-variants.{OnSegment, Flips, Passes}
-use Rattle.grid.specs.declared.GridAnswer.{GridAnswer}
-use Rattle.grid.specs.declared.GridAnswer.the-variants.{Tested, Untested}
-
--- "cross = (bx-ax)(py-ay) - (by-ay)(px-ax)"
-unfoldable pub cross : ℤ → ℤ → ℤ → ℤ → ℤ → ℤ → ℤ
-cross ax ay bx by px py = (bx -ℤ ax) *ℤ (py -ℤ ay) -ℤ (by -ℤ ay) *ℤ (px -ℤ ax)
 
 -- p is between a and b, both included
 abbrev pub between : ℤ → ℤ → ℤ → Bool
@@ -41,10 +33,3 @@ resultOf ax ay bx by px py = cond (isOn ax ay bx by px py) OnSegment (cond (isFl
 
 abbrev pub gridResult : Segment → ℤ → ℤ → GridResult
 gridResult s px py = resultOf (s .a .x) (s .a .y) (s .b .x) (s .b .y) px py
-
--- rule 6 on a segment alone: its ends are within Integer mode's limit
-abbrev pub endsWithin : Segment → Bool
-endsWithin s = allWithin (s .a .x ∷ s .a .y ∷ s .b .x ∷ s .b .y ∷ [])
-
-abbrev pub gridAnswer : Segment → ℤ → ℤ → GridAnswer
-gridAnswer s px py = cond (endsWithin s) (Tested (gridResult s px py)) (Untested (BeyondLimit 0))

@@ -7,7 +7,7 @@ use Rattle.boxes.specs.declared.Segment.{Segment}
 use Rattle.answers.specs.declared.Answer.{Answer}
 use Rattle.answers.specs.Answers.{said}
 use Rattle.rings.specs.Ring.{segmentAt, segments, numbers}
-use Rattle.rings.specs.Checks.{gridChecked, whenSound}
+use Rattle.rings.specs.Checks.{ringChecked, whenSound}
 use Rattle.rings.specs.RingTest.{ringTest}
 use Rattle.grid.specs.Grid.{isOn, isFlip}
 
@@ -21,6 +21,6 @@ flipAt ring px py i = let s = segmentAt ring i in isFlip (s .a .x) (s .a .y) (s 
 abbrev pub gridInside : List ℤ → ℕ → ℤ → ℤ → Bool → Bool
 gridInside ring n px py edge = ringTest (onAt ring px py) (flipAt ring px py) edge (numbers n)
 
--- rules 1 to 4 and 6, then the ring test
+-- rules 1 to 4, then the ring test
 unfoldable pub gridRing : List ℤ → ℕ → ℤ → ℤ → Bool → Answer
-gridRing ring points px py edge = whenSound (gridChecked ring points) (said (gridInside ring (segments points) px py edge))
+gridRing ring points px py edge = whenSound (ringChecked ring points) (said (gridInside ring (segments points) px py edge))

@@ -48,9 +48,9 @@ module _ (outline : Outline) (sizes : List ℕ) (coords : List ℤ) (nums : I32s
   fits : recordFits sizes boxes ≡ true
   fits = le-leb (4 * rings sizes) (length boxes) (omega (arith, boxes-length sizes coords (rings sizes), length-append (boxesOf sizes coords) rest))
 
-  module _ (sound : outlineChecked (outline .scale) (outline .mode) sizes coords ≡ Sound) where
-    passed : Passed (outline .scale) (outline .mode) sizes coords
-    passed = sound-outline true (outline .scale) (outline .mode) sizes coords sound .1
+  module _ (sound : outlineChecked (outline .scale) sizes coords ≡ Sound) where
+    passed : Passed (outline .scale) sizes coords
+    passed = sound-outline true (outline .scale) sizes coords sound .1
 
     own-box : (k : ℕ) → k < rings sizes → rectAt boxes k ≡ ringBox (wide (ringOf sizes coords k)) (sizeAt sizes k)
     own-box k h = rect-in sizes coords nums (passed .shaped .counted) k h rest
@@ -86,9 +86,9 @@ module _ (outline : Outline) (sizes : List ℕ) (coords : List ℤ) (nums : I32s
   -- the answer is that of the segments alone, refused or not
   pub demand-3 : insideOf outline sizes coords boxes x p edge ≡ plainInside outline sizes coords p edge
   unfolding insideOf plainInside
-  demand-3 = rw fits (go (outlineChecked (outline .scale) (outline .mode) sizes coords) refl)
+  demand-3 = rw fits (go (outlineChecked (outline .scale) sizes coords) refl)
     where
-      go : (c : Checked) → outlineChecked (outline .scale) (outline .mode) sizes coords ≡ c
+      go : (c : Checked) → outlineChecked (outline .scale) sizes coords ≡ c
           → whenSound c (askedAt sizes coords boxes x edge (scaledQuery outline p)) ≡ whenSound c (plainAsked sizes coords edge (scaledQuery outline p))
       go Sound e = asked-same e (scaledQuery outline p) refl
       go (Faulty why) e = refl

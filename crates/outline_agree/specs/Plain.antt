@@ -42,4 +42,4 @@ module _ (sizes : List ℕ) (coords : List ℤ) where
 
 unfoldable pub plainInside : Outline → List ℕ → List ℤ → Point → Bool → Answer
 plainInside outline sizes coords p edge =
-    whenSound (outlineChecked (outline .scale) (outline .mode) sizes coords) (plainAsked sizes coords edge (scaledQuery outline p))
+    whenSound (outlineChecked (outline .scale) sizes coords) (plainAsked sizes coords edge (scaledQuery outline p))

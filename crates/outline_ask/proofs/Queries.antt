@@ -30,22 +30,6 @@ module _ (outline : Outline) (p : Point) where
     unfolding scaledQuery
     query-grid m = rw (e, m)
 
--- a query at a whole place is one of Integer mode
-pub grid-mode : (outline : Outline) (p : Point) (px py : ℤ) → WholePlace px py ≡ scaledQuery outline p → outline .mode ≡ IntegerMode
-unfolding scaledQuery
-grid-mode outline p px py e = go (finitePoint p && finitePoint (scaledPoint (outline .scale) p)) (outline .mode) e
-  where
-    out : WholePlace px py ≡ Outside → ⊥
-    out e = let z : _≡_ {A = ℕ} 0 1 = cc in omega arith
-
-    no-float : (s : Point) → WholePlace px py ≡ FloatPlace (s .x) (s .y) → ⊥
-    no-float s e = let z : _≡_ {A = ℕ} 0 1 = cc in omega arith
-
-    go : (b : Bool) (m : RaycastMode) → WholePlace px py ≡ cond b (placed m (scaledPoint (outline .scale) p)) Outside → m ≡ IntegerMode
-    go false m e = absurd (out e)
-    go true FloatMode e = absurd (no-float (scaledPoint (outline .scale) p) e)
-    go true IntegerMode e = refl
-
 -- a float place is finite
 pub float-finite : (outline : Outline) (p : Point) (px py : Float) → FloatPlace px py ≡ scaledQuery outline p → (finite px && finite py) ≡ true
 unfolding scaledQuery

@@ -50,8 +50,11 @@ abbrev pub floatTest : List ℕ → List ℤ → List ℤ → Indexes → Point 
 floatTest sizes coords boxes x p k edge = ringAsked x k (rectAt boxes k) (wide (ringOf sizes coords k)) (segments (sizeAt sizes k)) p edge
 
 -- "without index"
+abbrev pub gridHolds : List ℕ → List ℤ → ℤ → ℤ → ℕ → Bool → Bool
+gridHolds sizes coords px py k edge = gridInside (ringOf sizes coords k) (segments (sizeAt sizes k)) px py edge
+
 abbrev pub gridTest : List ℕ → List ℤ → ℤ → ℤ → ℕ → Bool → Answer
-gridTest sizes coords px py k edge = said (gridInside (ringOf sizes coords k) (segments (sizeAt sizes k)) px py edge)
+gridTest sizes coords px py k edge = said (gridHolds sizes coords px py k edge)
 
 -- the exterior's box is the one that the record has
 abbrev pub floatAsked : List ℕ → List ℤ → List ℤ → Indexes → Point → Bool → Answer
@@ -69,8 +72,8 @@ askedAt sizes coords boxes x edge (WholePlace px py) = gridAsked sizes coords bo
 abbrev pub recordFits : List ℕ → List ℤ → Bool
 recordFits sizes boxes = leb (4 * rings sizes) (length boxes)
 
--- rules 1 to 6, rule 3 also of the record, then the question
+-- rules 1 to 5, rule 3 also of the record, then the question
 unfoldable pub insideOf : Outline → List ℕ → List ℤ → List ℤ → Indexes → Point → Bool → Answer
 insideOf outline sizes coords boxes x p edge =
-    whenSound (outlineWith (recordFits sizes boxes) (outline .scale) (outline .mode) sizes coords)
+    whenSound (outlineWith (recordFits sizes boxes) (outline .scale) sizes coords)
     (askedAt sizes coords boxes x edge (scaledQuery outline p))

@@ -1,3 +1,2 @@
 pub mod Query
 pub mod Inside
-pub mod Inner

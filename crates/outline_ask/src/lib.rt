@@ -2,7 +2,7 @@
 use answers::Answer;
 use boxes::Point;
 use floats::is_finite;
-use grid::grid_ring;
+use grid::grid_in;
 use outline_check::Outline;
 use outline_check::RaycastMode;
 use outline_check::check_outline_with;
@@ -20,8 +20,7 @@ ghost use Rattle.outline_check.specs.Outline.{rings, startOf};
 ghost use Rattle.outline_check.specs.Inner.Counted.{Counted};
 ghost use Rattle.outline_ring.specs.RingIndex.{lent};
 ghost use Rattle.outline_ask.specs.Query.{scaledQuery};
-ghost use Rattle.outline_ask.specs.Inside.{holesFrom, floatTest, gridTest, floatAsked, gridAsked, insideOf};
-ghost use Rattle.outline_ask.specs.Inner.Ready.{GridReady};
+ghost use Rattle.outline_ask.specs.Inside.{holesFrom, floatTest, gridHolds, gridTest, floatAsked, gridAsked, insideOf};
 
 // A scaled query: outside, a float place, or a whole place.
 pub enum Query {
@@ -160,59 +159,47 @@ fn float_inside(
 }
 
 // Ring k at a whole place. Its numbers start at `at`.
-fn grid_at(
-    sizes: &[u32],
-    coords: &[i32],
-    k: usize,
-    at: usize,
-    px: i64,
-    py: i64,
-    edge: bool,
-) -> Answer
-    requires { ⌜ GridReady (now sizes) (now coords) × (k < length (now sizes)) × (at ≡ 2 * startOf (now sizes) k) ⌝ }
-    ensures { λ r. ⌜ r ≡ gridTest (now (sizes .entry)) (now (coords .entry)) px py k edge ⌝ }
+fn grid_at(sizes: &[u32], coords: &[i32], k: usize, at: usize, px: i64, py: i64, edge: bool) -> bool
+    requires { ⌜ Counted (now sizes) (now coords) × (k < length (now sizes)) × (at ≡ 2 * startOf (now sizes) k) ⌝ }
+    ensures { λ r. ⌜ r ≡ gridHolds (now (sizes .entry)) (now (coords .entry)) px py k edge ⌝ }
 {
     let points = sizes[k] as usize;
     let end = at + 2 * points;
-    grid_ring(&coords[at..end], points, px, py, edge)
+    grid_in(&coords[at..end], points - 1, px, py, edge)
 }
 
 // The holes at a whole place.
 fn grid_holes(sizes: &[u32], coords: &[i32], px: i64, py: i64) -> Answer
-    requires { ⌜ GridReady (now sizes) (now coords) ⌝ }
+    requires { ⌜ Counted (now sizes) (now coords) ⌝ }
     ensures { λ r. ⌜ r ≡ holesFrom (λ k. gridTest (now (sizes .entry)) (now (coords .entry)) px py k false) (rings (now (sizes .entry)) - 1) 1 ⌝ }
 {
     let mut at = 2 * (sizes[0] as usize);
     let mut k: usize = 1;
     while k < sizes.len() {
-        match grid_at(sizes, coords, k, at, px, py, false) {
-            Answer::Yes => return Answer::No,
-            Answer::Refused(why) => return Answer::Refused(why),
-            Answer::No => {
-                at += 2 * (sizes[k] as usize);
-                k += 1;
-            }
+        if grid_at(sizes, coords, k, at, px, py, false) {
+            return Answer::No;
         }
+        at += 2 * (sizes[k] as usize);
+        k += 1;
     }
     Answer::Yes
 }
 
 // Integer mode: the same by whole numbers, without index.
 fn grid_inside(sizes: &[u32], coords: &[i32], boxes: &[i32], px: i64, py: i64, edge: bool) -> Answer
-    requires { ⌜ GridReady (now sizes) (now coords) ⌝ }
+    requires { ⌜ Counted (now sizes) (now coords) ⌝ }
     ensures { λ r. ⌜ r ≡ gridAsked (now (sizes .entry)) (now (coords .entry)) (now (boxes .entry)) px py edge ⌝ }
 {
     if !grid_box_holds(boxes, 0, px, py) {
         return Answer::No;
     }
-    match grid_at(sizes, coords, 0, 0, px, py, edge) {
-        Answer::Yes => grid_holes(sizes, coords, px, py),
-        Answer::No => Answer::No,
-        Answer::Refused(why) => Answer::Refused(why),
+    if !grid_at(sizes, coords, 0, 0, px, py, edge) {
+        return Answer::No;
     }
+    grid_holes(sizes, coords, px, py)
 }
 
-// Whether the outline holds p: checks 1 to 6, then the question. The record of boxes and the indexes are
+// Whether the outline holds p: checks 1 to 5, then the question. The record of boxes and the indexes are
 // read as they stand.
 pub fn inside(
     outline: Outline,

@@ -10,15 +10,13 @@ use lib.IntN.{ℤ}
 use lib.Ieee.{Float, binary64, ofBits, lt}
 use lib.Ieee.Scale.{finite}
 use borrow.Author.Tests.{ltb-false, eqb-true, eq-eqb, le-ltb, lt-ltb, not-true}
-use Rattle.answers.specs.declared.Refusal.the-variants.{TooFew, TooMany, SizesDiffer, NotClosed, BadScale, BeyondLimit}
+use Rattle.answers.specs.declared.Refusal.the-variants.{TooFew, TooMany, SizesDiffer, NotClosed, BadScale}
 use Rattle.rings.specs.declared.Checked.{Checked}
 use Rattle.rings.specs.declared.Checked.the-variants.{Sound, Faulty}
-use Rattle.rings.specs.Checks.{ringChecked, closed, allWithin, holding, thenChecked}
+use Rattle.rings.specs.Checks.{ringChecked, closed, holding, thenChecked}
 use Rattle.rings.proofs.Checks.{both}
-use Rattle.outline_check.specs.declared.RaycastMode.{RaycastMode}
-use Rattle.outline_check.specs.declared.RaycastMode.the-variants.{Integer as IntegerMode}
 use Rattle.outline_check.specs.Outline.{rings, sizeAt, startOf, ringOf}
-use Rattle.outline_check.specs.Rules.{forEach, enough, notOver, shut, inGrid, addUp, soundScale, inInteger, shapeWith, scaleChecked, outlineWith}
+use Rattle.outline_check.specs.Rules.{forEach, enough, notOver, shut, addUp, soundScale, shapeWith, scaleChecked, outlineWith}
 use Rattle.outline_check.specs.Inner.Counted.{Counted, countsChecked}
 use Rattle.outline_check.proofs.Rules.{held, then-sound, each-sound, each-then, holding-then}
 use Rattle.outline_check.proofs.Starts.{ring-length, start-small}
@@ -103,29 +101,18 @@ ring-sound sizes coords k s h =
     let r = ringOf sizes coords k in
     rw (le-ltb n 2 (s .counted .enough k h), le-ltb 4097 n (s .counted .small k h), eq-eqb (n * 2) (length r) (sym (ring-length (s .counted) k h)), s .shuts k h)
 
--- an outline that passes rules 1 to 6
-pub record Passed (scale : Float) (mode : RaycastMode) (sizes : List ℕ) (coords : List ℤ) : Type 0 where
+-- an outline that passes rules 1 to 5
+pub record Passed (scale : Float) (sizes : List ℕ) (coords : List ℤ) : Type 0 where
   pub shaped : Shaped sizes coords
   pub finite-scale : finite scale ≡ true
   pub above-zero : lt (ofBits binary64 0) scale ≡ true
-  pub within : mode ≡ IntegerMode → (k : ℕ) → k < rings sizes → allWithin (ringOf sizes coords k) ≡ true
 
-integer : (mode : RaycastMode) (asked : Checked) → inInteger mode asked ≡ Sound → mode ≡ IntegerMode → asked ≡ Sound
-integer mode asked e m = sym (ap (λ (t : RaycastMode). inInteger t asked) m) ∙ e
-
-pub sound-outline : (fits : Bool) (scale : Float) (mode : RaycastMode) (sizes : List ℕ) (coords : List ℤ)
-    → outlineWith fits scale mode sizes coords ≡ Sound → (fits ≡ true) × Passed scale mode sizes coords
+pub sound-outline : (fits : Bool) (scale : Float) (sizes : List ℕ) (coords : List ℤ)
+    → outlineWith fits scale sizes coords ≡ Sound → (fits ≡ true) × Passed scale sizes coords
 unfolding outlineWith scaleChecked
-sound-outline fits scale mode sizes coords e =
-    let parts = then-sound (shapeWith fits sizes coords) (scaleChecked scale mode sizes coords) e in
+sound-outline fits scale sizes coords e =
+    let parts = then-sound (shapeWith fits sizes coords) (scaleChecked scale) e in
     let shape = sound-shape sizes coords fits (parts .0) in
     let five = held (soundScale scale) BadScale _ (parts .1) in
-    let scales = both (finite scale) (lt (ofBits binary64 0) scale) (five .0) in (
-      shape .0,
-      record {
-        shaped = shape .1;
-        finite-scale = scales .0;
-        above-zero = scales .1;
-        within = λ m. each-sound (inGrid sizes coords) BeyondLimit (rings sizes) Sound (integer mode _ (five .1) m) .0;
-      },
-    )
+    let scales = both (finite scale) (lt (ofBits binary64 0) scale) (five .0) in
+    (shape .0, record { shaped = shape .1; finite-scale = scales .0; above-zero = scales .1 })

@@ -1,4 +1,4 @@
--- 01, "What a call says when it says no": rules 1 to 6 on an outline.
+-- 01, "What a call says when it says no": rules 1 to 5 on an outline.
 use Prim.Native.Nat.{ℕ, zero, suc, _+_, _*_}
 use mathlib.Core.List.{List}
 use mathlib.Core.Bool.{Bool, true, not, _&&_}
@@ -8,12 +8,10 @@ use lib.IntN.{ℤ}
 use lib.Ieee.{Float, binary64, ofBits, lt}
 use lib.Ieee.Scale.{finite}
 use Rattle.answers.specs.declared.Refusal.{Refusal}
-use Rattle.answers.specs.declared.Refusal.the-variants.{TooFew, TooMany, SizesDiffer, NotClosed, BadScale, BeyondLimit}
+use Rattle.answers.specs.declared.Refusal.the-variants.{TooFew, TooMany, SizesDiffer, NotClosed, BadScale}
 use Rattle.rings.specs.declared.Checked.{Checked}
 use Rattle.rings.specs.declared.Checked.the-variants.{Sound}
-use Rattle.rings.specs.Checks.{minPoints, maxPoints, closed, allWithin, holding, thenChecked}
-use Rattle.outline_check.specs.declared.RaycastMode.{RaycastMode}
-use Rattle.outline_check.specs.declared.RaycastMode.the-variants.{Float as FloatMode, Integer as IntegerMode}
+use Rattle.rings.specs.Checks.{minPoints, maxPoints, closed, holding, thenChecked}
 use Rattle.outline_check.specs.Outline.{rings, sizeAt, startOf, ringOf}
 
 -- "1 to 64 rings"
@@ -32,7 +30,7 @@ forFrom ok why (suc n) k later = holding (ok k) (why k) (forFrom ok why n (k + 1
 abbrev pub forEach : (ℕ → Bool) → (ℕ → Refusal) → ℕ → Checked → Checked
 forEach ok why n later = forFrom ok why n 0 later
 
--- The rules by ring: under 2 points, over 4,097 points, the first and the last point differ, a coordinate beyond Integer mode's limit.
+-- The rules by ring: under 2 points, over 4,097 points, the first and the last point differ.
 abbrev pub enough : List ℕ → ℕ → Bool
 enough sizes k = not (ltb (sizeAt sizes k) minPoints)
 
@@ -41,9 +39,6 @@ notOver sizes k = not (ltb maxPoints (sizeAt sizes k))
 
 abbrev pub shut : List ℕ → List ℤ → ℕ → Bool
 shut sizes coords k = closed (ringOf sizes coords k) (sizeAt sizes k)
-
-abbrev pub inGrid : List ℕ → List ℤ → ℕ → Bool
-inGrid sizes coords k = allWithin (ringOf sizes coords k)
 
 -- "ring sizes add up to the coordinates lent (two a point)"
 abbrev pub addUp : List ℕ → List ℤ → Bool
@@ -63,23 +58,16 @@ shapeWith fits sizes coords =
 abbrev pub soundScale : Float → Bool
 soundScale scale = finite scale && lt (ofBits binary64 0) scale
 
--- what only Integer mode asks
-abbrev pub inInteger : RaycastMode → Checked → Checked
-inInteger FloatMode asked = Sound
-inInteger IntegerMode asked = asked
+-- rule 5
+unfoldable pub scaleChecked : Float → Checked
+scaleChecked scale = holding (soundScale scale) BadScale Sound
 
--- rules 5 and 6
-unfoldable pub scaleChecked : Float → RaycastMode → List ℕ → List ℤ → Checked
-scaleChecked scale mode sizes coords =
-    holding (soundScale scale) BadScale
-    (inInteger mode (forEach (inGrid sizes coords) BeyondLimit (rings sizes) Sound))
-
--- rules 1 to 6
-unfoldable pub outlineWith : Bool → Float → RaycastMode → List ℕ → List ℤ → Checked
-outlineWith fits scale mode sizes coords = thenChecked (shapeWith fits sizes coords) (scaleChecked scale mode sizes coords)
+-- rules 1 to 5; whatever the mode, any coordinate is taken
+unfoldable pub outlineWith : Bool → Float → List ℕ → List ℤ → Checked
+outlineWith fits scale sizes coords = thenChecked (shapeWith fits sizes coords) (scaleChecked scale)
 
 abbrev pub shapeChecked : List ℕ → List ℤ → Checked
 shapeChecked sizes coords = shapeWith true sizes coords
 
-abbrev pub outlineChecked : Float → RaycastMode → List ℕ → List ℤ → Checked
-outlineChecked scale mode sizes coords = outlineWith true scale mode sizes coords
+abbrev pub outlineChecked : Float → List ℕ → List ℤ → Checked
+outlineChecked scale sizes coords = outlineWith true scale sizes coords

@@ -2,16 +2,14 @@
 use answers::Refusal;
 use floats::is_finite;
 use rings::Checked;
-use rings::Ring;
-use rings::all_within;
 use rings::is_closed;
 ghost use mathlib.Core.Path.{_≡_};
 ghost use Prim.Native.Nat.{_≤_};
 ghost use lib.ListN.{length};
 ghost use Rattle.rings.specs.declared.Checked.the-variants.{Sound};
-ghost use Rattle.answers.specs.declared.Refusal.the-variants.{TooFew, TooMany, NotClosed, BeyondLimit};
+ghost use Rattle.answers.specs.declared.Refusal.the-variants.{TooFew, TooMany, NotClosed};
 ghost use Rattle.outline_check.specs.Outline.{rings, startOf, outlineOf};
-ghost use Rattle.outline_check.specs.Rules.{forEach, enough, notOver, shut, inGrid, shapeWith, shapeChecked, outlineWith, outlineChecked};
+ghost use Rattle.outline_check.specs.Rules.{forEach, enough, notOver, shut, shapeWith, shapeChecked, outlineWith, outlineChecked};
 ghost use Rattle.outline_check.specs.Inner.Counted.{Counted, countsChecked};
 
 // How a scaled query is asked: as floats, or rounded to whole numbers.
@@ -34,9 +32,6 @@ impl Outline {
     pub const MIN_POINTS: u32 = 2;
 
     pub const MAX_POINTS: u32 = 4097;
-
-    // The largest size of a coordinate in Integer mode.
-    pub const GRID_LIMIT: i32 = Ring::GRID_LIMIT;
 
     // Float mode, the source's default.
     pub fn new(scale: f64) -> Outline
@@ -128,24 +123,6 @@ fn check_closed(sizes: &[u32], coords: &[i32]) -> Checked
     Checked::Sound
 }
 
-// Rule 6, for callers that have asked rules 1 to 3.
-fn check_limit(sizes: &[u32], coords: &[i32]) -> Checked
-    requires { ⌜ Counted (now sizes) (now coords) ⌝ }
-    ensures { λ r. ⌜ r ≡ forEach (inGrid (now (sizes .entry)) (now (coords .entry))) BeyondLimit (rings (now (sizes .entry))) Sound ⌝ }
-{
-    let mut start: usize = 0;
-    let mut k: usize = 0;
-    while k < sizes.len() {
-        let end = start + 2 * (sizes[k] as usize);
-        if !all_within(&coords[start..end]) {
-            return Checked::Faulty(Refusal::BeyondLimit(k));
-        }
-        start = end;
-        k += 1;
-    }
-    Checked::Sound
-}
-
 // Rules 1 and 2: the count of rings, and the count of points of each.
 fn check_counts(sizes: &[u32]) -> Checked
     ensures { λ r. ⌜ r ≡ countsChecked (now (sizes .entry)) ⌝ }
@@ -177,9 +154,9 @@ fn check_shape_with(fits: bool, sizes: &[u32], coords: &[i32]) -> Checked
     check_closed(sizes, coords)
 }
 
-// Rules 1 to 6 for such a call.
+// Rules 1 to 5 for such a call.
 pub fn check_outline_with(fits: bool, outline: Outline, sizes: &[u32], coords: &[i32]) -> Checked
-    ensures { λ r. ⌜ r ≡ outlineWith fits (outline .scale) (outline .mode) (now (sizes .entry)) (now (coords .entry)) ⌝ }
+    ensures { λ r. ⌜ r ≡ outlineWith fits (outline .scale) (now (sizes .entry)) (now (coords .entry)) ⌝ }
 {
     let shape = check_shape_with(fits, sizes, coords);
     let Checked::Sound = shape else {
@@ -189,11 +166,7 @@ pub fn check_outline_with(fits: bool, outline: Outline, sizes: &[u32], coords: &
     if !(is_finite(scale) & (0.0 < scale)) {
         return Checked::Faulty(Refusal::BadScale);
     }
-    let mode = outline.mode;
-    match mode {
-        RaycastMode::Float => Checked::Sound,
-        RaycastMode::Integer => check_limit(sizes, coords),
-    }
+    Checked::Sound
 }
 
 // Rules 1 to 4.
@@ -203,9 +176,9 @@ pub fn check_shape(sizes: &[u32], coords: &[i32]) -> Checked
     check_shape_with(true, sizes, coords)
 }
 
-// Rules 1 to 6.
+// Rules 1 to 5.
 pub fn check_outline(outline: Outline, sizes: &[u32], coords: &[i32]) -> Checked
-    ensures { λ r. ⌜ r ≡ outlineChecked (outline .scale) (outline .mode) (now (sizes .entry)) (now (coords .entry)) ⌝ }
+    ensures { λ r. ⌜ r ≡ outlineChecked (outline .scale) (now (sizes .entry)) (now (coords .entry)) ⌝ }
 {
     check_outline_with(true, outline, sizes, coords)
 }

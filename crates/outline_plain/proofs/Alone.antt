@@ -30,18 +30,18 @@ use Rattle.outline_agree.specs.Plain.{plainAsked, plainInside}
 use Rattle.outline_read.proofs.Demand.{made-answers, zeros-own}
 
 module _ (outline : Outline) (sizes : List ℕ) (coords : List ℤ) (boxes : List ℤ) (p : Point) (edge : Bool) (made : Made) (out : List ℤ)
-    (said : boxesMade (outline .scale) (outline .mode) sizes coords boxes ≡ (made, out)) where
+    (said : boxesMade (outline .scale) sizes coords boxes ≡ (made, out)) where
   -- a record that could not be made, in room for 64 rings, is a rule that refused
   pub plain-refused : length boxes ≡ 256 → (why : Refusal) → made ≡ Unmade why → Refused why ≡ plainInside outline sizes coords p edge
   unfolding boxesMade plainInside
-  plain-refused wide why e = go (outlineChecked (outline .scale) (outline .mode) sizes coords) refl said
+  plain-refused wide why e = go (outlineChecked (outline .scale) sizes coords) refl said
     where
-      go : (c : Checked) → outlineChecked (outline .scale) (outline .mode) sizes coords ≡ c
+      go : (c : Checked) → outlineChecked (outline .scale) sizes coords ≡ c
           → whenPassed c boxes (recorded sizes coords boxes) ≡ (made, out)
           → Refused why ≡ whenSound c (plainAsked sizes coords edge (scaledQuery outline p))
       go (Faulty w) k f = let same : Unmade w ≡ Unmade why = ap (λ (o : Outcome). o .0) f ∙ e in cc
       go Sound k f =
-          let few = sound-outline true (outline .scale) (outline .mode) sizes coords k .1 .shaped .counted .few in
+          let few = sound-outline true (outline .scale) sizes coords k .1 .shaped .counted .few in
           let fits : 4 * rings sizes ≤ length boxes = omega arith in
           let clash : Rings (rings sizes) ≡ Unmade why = ap (λ (o : Outcome). o .0) (sym (recorded-fits sizes coords boxes fits) ∙ f) ∙ e in
           let z : _≡_ {A = ℕ} 0 1 = cc in

@@ -20,7 +20,7 @@ fn lent_numbers(coords: &[i32])
     }
 }
 
-// Whether the outline holds p: checks 1 to 6, the box of each ring from its points, then the question with every ring scanned. The room for the boxes is
+// Whether the outline holds p: checks 1 to 5, the box of each ring from its points, then the question with every ring scanned. The room for the boxes is
 // four numbers for each of 64 rings, and a table of one zero tells of no index.
 pub fn inside_plain(outline: Outline, sizes: &[u32], coords: &[i32], p: Point, edge: bool) -> Answer
     ensures { λ r. ⌜ r ≡ plainInside outline (now (sizes .entry)) (now (coords .entry)) p edge ⌝ }

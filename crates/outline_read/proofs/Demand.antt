@@ -30,12 +30,12 @@ unfolding padZ
 padded n xs = refl
 
 module _ (outline : Outline) (sizes : List ℕ) (coords : List ℤ) (nums : I32s coords) (boxes bx : List ℤ) (n : ℕ)
-    (record-made : boxesMade (outline .scale) (outline .mode) sizes coords boxes ≡ (Rings n, bx)) (p : Point) (edge : Bool) where
+    (record-made : boxesMade (outline .scale) sizes coords boxes ≡ (Rings n, bx)) (p : Point) (edge : Bool) where
   -- any choice of own indexes, beside a record that was made
   pub made-answers : (x : Indexes) → OwnIndexes x sizes coords → insideOf outline sizes coords bx x p edge ≡ plainInside outline sizes coords p edge
   made-answers x own =
       ap (λ (r : List ℤ). insideOf outline sizes coords r x p edge)
-      (made-record (outline .scale) (outline .mode) sizes coords boxes bx n record-made .2 ∙ padded (length boxes) (boxesOf sizes coords))
+      (made-record (outline .scale) sizes coords boxes bx n record-made .2 ∙ padded (length boxes) (boxesOf sizes coords))
       ∙ demand-3 outline sizes coords nums (replicate (length boxes - length (boxesOf sizes coords)) (pos 0)) x own p edge
 
   -- and so the indexes that were built

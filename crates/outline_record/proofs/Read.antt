@@ -19,7 +19,6 @@ use Rattle.rings.specs.Ring.{wide, pointAt}
 use Rattle.rings.specs.I32s.{I32s}
 use Rattle.tree.specs.Tree.{ringBox}
 use Rattle.outline_check.specs.Outline.{rings, sizeAt, startOf, ringOf}
-use Rattle.outline_check.specs.declared.RaycastMode.{RaycastMode}
 use Rattle.outline_check.specs.Rules.{outlineChecked}
 use Rattle.outline_check.specs.Inner.Counted.{Counted}
 use Rattle.outline_check.proofs.Starts.{part-within}
@@ -99,14 +98,14 @@ grid-box-in sizes coords rest k x y h =
     rw (ap (λ (i : ℕ). getD zs i (pos 0)) z ∙ at 0 (omega arith), at 1 (omega arith), at 2 (omega arith), at 3 (omega arith))
 
 -- what a record that was made tells: the outline passed the rules, and the room holds the boxes and zeros behind them
-pub made-record : (scale : Float) (mode : RaycastMode) (sizes : List ℕ) (coords boxes out : List ℤ) (n : ℕ)
-    → boxesMade scale mode sizes coords boxes ≡ (Rings n, out)
-    → (outlineChecked scale mode sizes coords ≡ Sound) × (n ≡ rings sizes) × (out ≡ padZ (length boxes) (boxesOf sizes coords))
+pub made-record : (scale : Float) (sizes : List ℕ) (coords boxes out : List ℤ) (n : ℕ)
+    → boxesMade scale sizes coords boxes ≡ (Rings n, out)
+    → (outlineChecked scale sizes coords ≡ Sound) × (n ≡ rings sizes) × (out ≡ padZ (length boxes) (boxesOf sizes coords))
 unfolding boxesMade
-made-record scale mode sizes coords boxes out n e = go (outlineChecked scale mode sizes coords) refl e
+made-record scale sizes coords boxes out n e = go (outlineChecked scale sizes coords) refl e
   where
-    go : (x : Checked) → outlineChecked scale mode sizes coords ≡ x → whenPassed x boxes (recorded sizes coords boxes) ≡ (Rings n, out)
-        → (outlineChecked scale mode sizes coords ≡ Sound) × (n ≡ rings sizes) × (out ≡ padZ (length boxes) (boxesOf sizes coords))
+    go : (x : Checked) → outlineChecked scale sizes coords ≡ x → whenPassed x boxes (recorded sizes coords boxes) ≡ (Rings n, out)
+        → (outlineChecked scale sizes coords ≡ Sound) × (n ≡ rings sizes) × (out ≡ padZ (length boxes) (boxesOf sizes coords))
     go (Faulty why) p q = let u : Unmade why ≡ Rings n = ap (λ (y : Outcome). y .0) q in let z : _≡_ {A = ℕ} 0 1 = cc in absurd (omega arith)
     go Sound p q =
         ⊎-elim

@@ -9,7 +9,6 @@ use lib.Ieee.{Float}
 use Rattle.answers.specs.declared.Refusal.the-variants.{NoRoom}
 use Rattle.rings.specs.declared.Checked.{Checked}
 use Rattle.rings.specs.declared.Checked.the-variants.{Sound, Faulty}
-use Rattle.outline_check.specs.declared.RaycastMode.{RaycastMode}
 use Rattle.outline_check.specs.Outline.{rings}
 use Rattle.outline_check.specs.Rules.{outlineChecked}
 use Rattle.outline_record.specs.declared.Made.{Made}
@@ -36,5 +35,5 @@ abbrev pub whenPassed : Checked → List ℤ → Outcome → Outcome
 whenPassed Sound boxes later = later
 whenPassed (Faulty why) boxes later = (Unmade why, boxes)
 
-unfoldable pub boxesMade : Float → RaycastMode → List ℕ → List ℤ → List ℤ → Outcome
-boxesMade scale mode sizes coords boxes = whenPassed (outlineChecked scale mode sizes coords) boxes (recorded sizes coords boxes)
+unfoldable pub boxesMade : Float → List ℕ → List ℤ → List ℤ → Outcome
+boxesMade scale sizes coords boxes = whenPassed (outlineChecked scale sizes coords) boxes (recorded sizes coords boxes)

@@ -117,9 +117,9 @@ fn put_record(sizes: &[u32], coords: &[i32], boxes: &mut [i32]) -> Made
     Made::Rings(sizes.len())
 }
 
-// Makes the record of an outline: rules 1 to 6, then the box of each ring.
+// Makes the record of an outline: rules 1 to 5, then the box of each ring.
 pub fn make_boxes(outline: Outline, sizes: &[u32], coords: &[i32], boxes: &mut [i32]) -> Made
-    ensures { λ r. ⌜ boxesMade (outline .scale) (outline .mode) (now (sizes .entry)) (now (coords .entry)) (now (boxes .entry)) ≡ (r, now (boxes .exit)) ⌝ }
+    ensures { λ r. ⌜ boxesMade (outline .scale) (now (sizes .entry)) (now (coords .entry)) (now (boxes .entry)) ≡ (r, now (boxes .exit)) ⌝ }
 {
     let checked = check_outline(outline, sizes, coords);
     match checked {

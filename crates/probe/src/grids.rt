@@ -1,16 +1,18 @@
-// The whole-number test.
+// The whole-number test, and the sign of the cross.
 use crate::answer::put_answer;
 use crate::rects::segment_of;
-use grid::GridAnswer;
+use cross::Sign;
+use cross::cross_sign;
 use grid::GridResult;
 use grid::grid_ring;
 use grid::grid_test;
 ghost use mathlib.Core.Path.{_≡_};
-ghost use Rattle.grid.specs.Grid.{gridAnswer};
+ghost use Rattle.cross.specs.Cross.{cross, signOf};
+ghost use Rattle.grid.specs.Grid.{gridResult};
 ghost use Rattle.grid.specs.Rings.{gridRing};
 ghost use Rattle.probe.specs.Numbers.{answerNumbers};
 ghost use Rattle.probe.specs.Boxes.{segment};
-ghost use Rattle.probe.specs.Casts.{gridNumber, gridNumbers};
+ghost use Rattle.probe.specs.Casts.{signNumber, gridNumber};
 
 // 0 passes, 1 flips, 2 on.
 fn number_of(said: GridResult) -> u32
@@ -23,38 +25,29 @@ fn number_of(said: GridResult) -> u32
     }
 }
 
-// What the test says goes to said, a refusal's place to place.
-fn put_result(answer: GridAnswer, place: &mut usize, said: &mut u32) -> u32
-    ensures { λ r. ⌜ gridNumbers answer ≡ (r, now (place .exit), now (said .exit)) ⌝ }
+// 0 below, 1 zero, 2 above.
+fn sign_number(sign: Sign) -> u32
+    ensures { λ r. ⌜ r ≡ signNumber sign ⌝ }
 {
-    match answer {
-        GridAnswer::Tested(result) => {
-            *place = 0;
-            *said = number_of(result);
-            0
-        }
-        GridAnswer::Untested(refusal) => {
-            *place = refusal.place();
-            *said = 0;
-            refusal.number()
-        }
+    match sign {
+        Sign::Below => 0,
+        Sign::Zero => 1,
+        Sign::Above => 2,
     }
 }
 
 #[no_mangle]
-pub extern "C" fn probe_grid_test(
-    ax: i32,
-    ay: i32,
-    bx: i32,
-    by: i32,
-    x: i64,
-    y: i64,
-    place: &mut usize,
-    said: &mut u32,
-) -> u32
-    ensures { λ r. ⌜ gridNumbers (gridAnswer (segment ax ay bx by) x y) ≡ (r, now (place .exit), now (said .exit)) ⌝ }
+pub extern "C" fn probe_cross_sign(ax: i32, ay: i32, bx: i32, by: i32, px: i32, py: i32) -> u32
+    ensures { λ r. ⌜ r ≡ signNumber (signOf (cross ax ay bx by px py)) ⌝ }
 {
-    put_result(grid_test(segment_of(ax, ay, bx, by), x, y), place, said)
+    sign_number(cross_sign(ax, ay, bx, by, px, py))
+}
+
+#[no_mangle]
+pub extern "C" fn probe_grid_test(ax: i32, ay: i32, bx: i32, by: i32, x: i64, y: i64) -> u32
+    ensures { λ r. ⌜ r ≡ gridNumber (gridResult (segment ax ay bx by) x y) ⌝ }
+{
+    number_of(grid_test(segment_of(ax, ay, bx, by), x, y))
 }
 
 #[no_mangle]

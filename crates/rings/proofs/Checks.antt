@@ -1,29 +1,17 @@
 -- Laws of the checks on a ring. Assumes nothing.
-use Prim.Native.Nat.{ℕ, zero, suc, _+_, _*_, _≤_, _<_}
+use Prim.Native.Nat.{ℕ, _*_, _≤_, _<_}
 use mathlib.Core.Path.{_≡_, refl, sym, ap, _∙_}
-use mathlib.Core.List.{List, [], _∷_}
+use mathlib.Core.List.{List}
 use mathlib.Core.Bool.{Bool, true, false, not, _&&_, false≢true}
-use native.Mathlib.Omega.{arith}
-use native.Mathlib.Numerals.{add-one}
-use lib.ListN.{length, drop, getD, drop-of-length-le}
-use lib.Seq.{drop-cons}
-use lib.IntN.{ℤ, pos}
+use lib.ListN.{length}
+use lib.IntN.{ℤ}
 use lib.Dec.{ltb, eqb}
 use borrow.Author.Tests.{ltb-false, eqb-true, not-true}
 use Rattle.answers.specs.declared.Refusal.{Refusal}
-use Rattle.answers.specs.declared.Refusal.the-variants.{TooFew, TooMany, SizesDiffer, NotClosed, BeyondLimit}
+use Rattle.answers.specs.declared.Refusal.the-variants.{TooFew, TooMany, SizesDiffer, NotClosed}
 use Rattle.rings.specs.declared.Checked.{Checked}
 use Rattle.rings.specs.declared.Checked.the-variants.{Sound, Faulty}
-use Rattle.rings.specs.Checks.{withinLimit, allWithin, closed, holding, ringChecked, thenChecked, gridChecked}
-
-module _ (zs : List ℤ) (i : ℕ) where
-  pub within-done : length zs ≤ i → allWithin (drop i zs) ≡ true
-  unfolding allWithin
-  within-done h = rw (drop-of-length-le zs h)
-
-  pub within-more : i < length zs → allWithin (drop i zs) ≡ (withinLimit (getD zs i (pos 0)) && allWithin (drop (i + 1) zs))
-  unfolding allWithin
-  within-more h = rw (add-one, drop-cons zs i (pos 0) h)
+use Rattle.rings.specs.Checks.{closed, holding, ringChecked}
 
 -- the two sides of a test that holds
 pub both : (a b : Bool) → (a && b) ≡ true → (a ≡ true) × (b ≡ true)
@@ -31,13 +19,6 @@ both true true e = (refl, refl)
 both true false e = absurd (false≢true e)
 both false true e = absurd (false≢true e)
 both false false e = absurd (false≢true e)
-
--- where all are within the limit, each is
-pub within-at : (zs : List ℤ) (i : ℕ) → allWithin zs ≡ true → i < length zs → withinLimit (getD zs i (pos 0)) ≡ true
-unfolding allWithin
-within-at [] i all h = absurd (omega arith)
-within-at (z ∷ zs) zero all h = both (withinLimit z) (allWithin zs) all .0
-within-at (z ∷ zs) (suc i) all h = within-at zs i (both (withinLimit z) (allWithin zs) all .1) (omega arith)
 
 -- what a ring that passes rules 1 to 4 is
 pub record Accepted (ring : List ℤ) (points : ℕ) : Type 0 where
@@ -64,14 +45,3 @@ sound-ring ring points e =
       sizes = eqb-true (points * 2) (length ring) (three .0);
       shut = four .0;
     }
-
-then-sound : (first later : Checked) → thenChecked first later ≡ Sound → (first ≡ Sound) × (later ≡ Sound)
-then-sound Sound later e = (refl, e)
-then-sound (Faulty why) later e = (cc, cc)
-
--- rules 1 to 4 and 6
-pub sound-grid : (ring : List ℤ) (points : ℕ) → gridChecked ring points ≡ Sound → Accepted ring points × (allWithin ring ≡ true)
-unfolding gridChecked
-sound-grid ring points e =
-    let both = then-sound (ringChecked ring points) (holding (allWithin ring) (BeyondLimit 0) Sound) e in
-    (sound-ring ring points (both .0), held (allWithin ring) (BeyondLimit 0) Sound (both .1) .0)

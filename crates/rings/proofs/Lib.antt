@@ -1,6 +1,5 @@
 pub mod Whole
 pub mod Checks
-pub mod Sizes
 pub mod RingTest
 pub mod Listing
 pub mod Ends

@@ -1,13 +1,12 @@
 -- 01, "What a call says when it says no": the rules for one ring, which is given its point count and is numbered 0.
 use Prim.Native.Nat.{ℕ, _*_, _-_}
-use mathlib.Core.List.{List, [], _∷_}
+use mathlib.Core.List.{List}
 use mathlib.Core.Bool.{Bool, true, false, not, _&&_}
 use lib.Dec.{eqb, ltb}
 use lib.ListN.{length}
-use lib.IntN.{ℤ, pos, negsuc, negℤ}
-use lib.Signed.{leZ}
+use lib.IntN.{ℤ, pos, negsuc}
 use Rattle.answers.specs.declared.Refusal.{Refusal}
-use Rattle.answers.specs.declared.Refusal.the-variants.{TooFew, TooMany, SizesDiffer, NotClosed, BeyondLimit}
+use Rattle.answers.specs.declared.Refusal.the-variants.{TooFew, TooMany, SizesDiffer, NotClosed}
 use Rattle.answers.specs.declared.Answer.{Answer}
 use Rattle.answers.specs.declared.Answer.the-variants.{Refused}
 use Rattle.boxes.specs.declared.I32Point.{I32Point}
@@ -15,15 +14,12 @@ use Rattle.rings.specs.declared.Checked.{Checked}
 use Rattle.rings.specs.declared.Checked.the-variants.{Sound, Faulty}
 use Rattle.rings.specs.Ring.{pointAt}
 
--- "2 to 4,097 points a ring", "-1,073,741,823 to 1,073,741,823 in Integer mode"
+-- "2 to 4,097 points a ring"
 abbrev pub minPoints : ℕ
 minPoints = 2
 
 abbrev pub maxPoints : ℕ
 maxPoints = 4097
-
-abbrev pub gridLimit : ℕ
-gridLimit = 1073741823
 
 abbrev pub eqZ : ℤ → ℤ → Bool
 eqZ (pos a) (pos b) = eqb a b
@@ -37,14 +33,6 @@ samePoint p q = eqZ (p .x) (q .x) && eqZ (p .y) (q .y)
 -- the first point is equal to the last
 abbrev pub closed : List ℤ → ℕ → Bool
 closed ring points = samePoint (pointAt ring 0) (pointAt ring (points - 1))
-
-abbrev pub withinLimit : ℤ → Bool
-withinLimit z = leZ (negℤ (pos gridLimit)) z && leZ z (pos gridLimit)
-
--- no coordinate is beyond Integer mode's limit
-unfoldable pub allWithin : List ℤ → Bool
-allWithin [] = true
-allWithin (z ∷ zs) = withinLimit z && allWithin zs
 
 -- a rule that holds leaves the answer to the rules after it; one that does not refuses
 abbrev pub holding : Bool → Refusal → Checked → Checked
@@ -63,10 +51,6 @@ ringChecked ring points =
 abbrev pub thenChecked : Checked → Checked → Checked
 thenChecked Sound later = later
 thenChecked (Faulty why) later = Faulty why
-
--- rules 1 to 4, then 6
-unfoldable pub gridChecked : List ℤ → ℕ → Checked
-gridChecked ring points = thenChecked (ringChecked ring points) (holding (allWithin ring) (BeyondLimit 0) Sound)
 
 -- what an inside question answers: the refusal, or what follows where the ring is sound
 abbrev pub whenSound : Checked → Answer → Answer

@@ -11,7 +11,7 @@ ghost use lib.ListN.{length};
 ghost use Rattle.room.specs.Numbers.{upTo};
 ghost use Rattle.rings.specs.Ring.{wide, segmentAt, sideAt, holdsHeight};
 ghost use Rattle.rings.specs.Listing.{listedIn, scanned};
-ghost use Rattle.rings.specs.Checks.{closed, withinLimit, allWithin, ringChecked, gridChecked};
+ghost use Rattle.rings.specs.Checks.{closed, ringChecked};
 
 // A ring's points are lent as a slice of numbers, so the type holds nothing but the limits of a ring.
 pub struct Ring;
@@ -20,9 +20,6 @@ impl Ring {
     pub const MIN_POINTS: usize = 2;
 
     pub const MAX_POINTS: usize = 4097;
-
-    // The largest size of a coordinate in Integer mode.
-    pub const GRID_LIMIT: i32 = 1073741823;
 }
 
 // What the checks on a ring find.
@@ -71,27 +68,6 @@ pub fn is_closed(coords: &[i32], points: usize) -> bool
     (coords[0] == coords[last]) & (coords[1] == coords[last + 1])
 }
 
-// Whether a coordinate is within Integer mode's limit.
-pub fn within_limit(z: i32) -> bool
-    ensures { λ r. ⌜ r ≡ withinLimit z ⌝ }
-{
-    (-Ring::GRID_LIMIT <= z) & (z <= Ring::GRID_LIMIT)
-}
-
-// Whether each coordinate is within Integer mode's limit.
-pub fn all_within(coords: &[i32]) -> bool
-    ensures { λ r. ⌜ r ≡ allWithin (now (coords .entry)) ⌝ }
-{
-    let mut i: usize = 0;
-    while i < coords.len() {
-        if !within_limit(coords[i]) {
-            return false;
-        }
-        i += 1;
-    }
-    true
-}
-
 // Rules 1 to 4 on one ring.
 pub fn check_ring(coords: &[i32], points: usize) -> Checked
     ensures { λ r. ⌜ r ≡ ringChecked (now (coords .entry)) points ⌝ }
@@ -109,23 +85,6 @@ pub fn check_ring(coords: &[i32], points: usize) -> Checked
         Checked::Sound
     } else {
         Checked::Faulty(Refusal::NotClosed(0))
-    }
-}
-
-// Rules 1 to 4 and then 6 on one ring.
-pub fn check_grid_ring(coords: &[i32], points: usize) -> Checked
-    ensures { λ r. ⌜ r ≡ gridChecked (now (coords .entry)) points ⌝ }
-{
-    let first = check_ring(coords, points);
-    match first {
-        Checked::Sound => {
-            if all_within(coords) {
-                Checked::Sound
-            } else {
-                Checked::Faulty(Refusal::BeyondLimit(0))
-            }
-        }
-        Checked::Faulty(_) => first,
     }
 }
 

@@ -7,11 +7,12 @@ use Rattle.floats.specs.Next.{nextUp}
 use Rattle.room.specs.Numbers.{keep, upTo}
 use Rattle.room.specs.Room.{pad, roomOf}
 use Rattle.rings.specs.Ring.{meeting}
-use Rattle.rings.specs.Checks.{allWithin, ringChecked}
+use Rattle.rings.specs.Checks.{ringChecked}
 use Rattle.rings.specs.Listing.{listedIn, scannedBy}
 use Rattle.rings.specs.RingTest.{testFrom}
 use Rattle.whole.specs.Round.{roundTo}
-use Rattle.grid.specs.Grid.{cross, isOn, isFlip}
+use Rattle.cross.specs.Cross.{cross}
+use Rattle.grid.specs.Grid.{isOn, isFlip}
 use Rattle.turn.specs.Turn.{sumTo, turnOf, turned}
 use Rattle.turn.specs.Order.{ringOf as pointsOf, reversed}
 use Rattle.rays.specs.Raycast.{firstSteps, lastSteps, raycastOf}
@@ -30,7 +31,7 @@ use Rattle.outline_ask.specs.Inside.{holesFrom, throughRings, insideOf}
 use Rattle.sheet.specs.Sheet.{SampleSheet}
 
 pub sample-sheet : SampleSheet
-unfolding scannedBy listedIn roomOf pad ringChecked treeBuiltBy fromThreshold packedIn nodes appendUvarint insideOf throughRings holesFrom scaledQuery ringAsked boxesTo boxNumbers leastZ greatestZ outlineWith shapeWith scaleChecked forFrom startOf ringOf packed ownBytes differences treeOf grown stripeOf floorWithin mul meeting upTo keep allWithin testFrom cross isOn isFlip roundTo turned turnOf sumTo reversed pointsOf raycastOf firstSteps lastSteps ne sub div ofInt le lt eq encode encodeIn readUvarint decode size nextUp ofBits toBits isNan
+unfolding scannedBy listedIn roomOf pad ringChecked treeBuiltBy fromThreshold packedIn nodes appendUvarint insideOf throughRings holesFrom scaledQuery ringAsked boxesTo boxNumbers leastZ greatestZ outlineWith shapeWith scaleChecked forFrom startOf ringOf packed ownBytes differences treeOf grown stripeOf floorWithin mul meeting upTo keep testFrom cross isOn isFlip roundTo turned turnOf sumTo reversed pointsOf raycastOf firstSteps lastSteps ne sub div ofInt le lt eq encode encodeIn readUvarint decode size nextUp ofBits toBits isNan
 sample-sheet =
     record {
       holds-5-5 = λ edge. refl;

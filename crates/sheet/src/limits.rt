@@ -1,4 +1,4 @@
-// "4,097 points pass, 4,098 give 2. Coordinate 1,073,741,824 in Integer mode gives 6."
+// "4,097 points pass, 4,098 give 2. Integer mode takes any i32, 1,073,741,824 too (CR 14)."
 use crate::print::refused;
 use crate::print::text;
 use outline_check::Outline;
@@ -36,10 +36,12 @@ fn reaching(mode: RaycastMode, x: i32) {
 }
 
 pub fn coordinates() {
-    text(b"coordinate 1073741823 in Integer mode: ");
-    reaching(RaycastMode::Integer, 1073741823);
     text(b"coordinate 1073741824 in Integer mode: ");
     reaching(RaycastMode::Integer, 1073741824);
+    text(b"coordinate 2147483647 in Integer mode: ");
+    reaching(RaycastMode::Integer, 2147483647);
+    text(b"coordinate -2147483648 in Integer mode: ");
+    reaching(RaycastMode::Integer, -2147483648);
     text(b"coordinate 1073741824 in Float mode: ");
     reaching(RaycastMode::Float, 1073741824);
 }

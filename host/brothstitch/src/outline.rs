@@ -92,8 +92,6 @@ impl Outline {
     pub const MAX_RINGS: usize = 64;
     pub const MIN_POINTS: usize = 2;
     pub const MAX_POINTS: usize = 4097;
-    /// Integer mode takes coordinates from minus this to this.
-    pub const GRID_LIMIT: i32 = 1_073_741_823;
 
     /// An outline of rings, the exterior first; each ring's first point stands again at its end.
     pub fn new<R: AsRef<[(i32, i32)]>>(rings: &[R], scale: f64, mode: Mode) -> Result<Outline, Refusal> {
@@ -331,9 +329,10 @@ mod tests {
         for scale in [0.0, -1.0, f64::NAN, f64::INFINITY] {
             assert_eq!(made(&[square(0, 9)], scale, Mode::Float), Some(Refusal::BadScale));
         }
-        let far = square(0, Outline::GRID_LIMIT + 1);
-        assert_eq!(made(&[square(0, 9), far.clone()], 1.0, Mode::Integer), Some(Refusal::BeyondLimit { ring: 1 }));
-        assert_eq!(made(&[square(0, 9), far], 1.0, Mode::Float), None);
+        let widest = vec![(i32::MIN, i32::MIN), (i32::MAX, i32::MIN), (i32::MAX, i32::MAX), (i32::MIN, i32::MIN)];
+        for mode in [Mode::Float, Mode::Integer] {
+            assert_eq!(made(&[square(0, 9), widest.clone()], 1.0, mode), None);
+        }
         let differ = Outline::from_numbers(vec![4], vec![0; 10], 1.0, Mode::Float);
         assert_eq!(differ, Err(Refusal::SizesDiffer));
     }

@@ -19,8 +19,6 @@ pub enum Refusal {
     NotClosed { ring: u64 },
     /// The scale is not finite, or not above 0.
     BadScale,
-    /// Integer mode, and a coordinate beyond its limit.
-    BeyondLimit { ring: u64 },
     /// A list was asked for at a height that is not finite.
     BadHeight,
     /// The lent room is too small for what the rules call for.
@@ -45,7 +43,6 @@ impl Refusal {
             3 => Refusal::SizesDiffer,
             4 => Refusal::NotClosed { ring: place },
             5 => Refusal::BadScale,
-            6 => Refusal::BeyondLimit { ring: place },
             7 => Refusal::BadHeight,
             8 => Refusal::NoRoom,
             9 => Refusal::Damaged { place },
@@ -61,7 +58,6 @@ impl Refusal {
             Refusal::SizesDiffer => 3,
             Refusal::NotClosed { .. } => 4,
             Refusal::BadScale => 5,
-            Refusal::BeyondLimit { .. } => 6,
             Refusal::BadHeight => 7,
             Refusal::NoRoom => 8,
             Refusal::Damaged { .. } => 9,
@@ -72,10 +68,7 @@ impl Refusal {
     pub fn place(self) -> u64 {
         match self {
             Refusal::TooManyRings => MOST_RINGS,
-            Refusal::TooFew { ring }
-            | Refusal::TooManyPoints { ring }
-            | Refusal::NotClosed { ring }
-            | Refusal::BeyondLimit { ring } => ring,
+            Refusal::TooFew { ring } | Refusal::TooManyPoints { ring } | Refusal::NotClosed { ring } => ring,
             Refusal::Damaged { place } | Refusal::Loose { place } => place,
             Refusal::SizesDiffer | Refusal::BadScale | Refusal::BadHeight | Refusal::NoRoom => 0,
         }
@@ -93,9 +86,6 @@ impl fmt::Display for Refusal {
             Refusal::SizesDiffer => write!(f, "the ring sizes do not add up to the coordinates"),
             Refusal::NotClosed { ring } => write!(f, "ring {ring} is not closed: its first and last point differ"),
             Refusal::BadScale => write!(f, "the scale is not a finite number above 0"),
-            Refusal::BeyondLimit { ring } => {
-                write!(f, "ring {ring} has a coordinate beyond 1,073,741,823, the limit of integer mode")
-            }
             Refusal::BadHeight => write!(f, "the height is not a finite number"),
             Refusal::NoRoom => write!(f, "the room is too small for what is called for"),
             Refusal::Damaged { place } => write!(f, "the index is damaged at place {place}"),
@@ -112,7 +102,7 @@ mod tests {
 
     #[test]
     fn numbers_and_places_come_back() {
-        for number in (1..=9).chain([15]) {
+        for number in [1, 2, 3, 4, 5, 7, 8, 9, 15] {
             for place in [0, 1, 63, 64, 4096] {
                 let refusal = Refusal::of(number, place).expect("a number of the table");
                 assert_eq!(refusal.number(), number);
@@ -121,7 +111,8 @@ mod tests {
                 assert_eq!(refusal.place(), told, "refusal {number}");
             }
         }
-        for number in [0, 10, 11, 14, 16, 99, u32::MAX] {
+        // 6 is withdrawn, and given to nothing else
+        for number in [0, 6, 10, 11, 14, 16, 99, u32::MAX] {
             assert_eq!(Refusal::of(number, 0), None);
         }
     }
@@ -136,7 +127,6 @@ mod tests {
             (3, 0, "refusal 3: the ring sizes do not add up to the coordinates"),
             (4, 1, "refusal 4: ring 1 is not closed: its first and last point differ"),
             (5, 0, "refusal 5: the scale is not a finite number above 0"),
-            (6, 2, "refusal 6: ring 2 has a coordinate beyond 1,073,741,823, the limit of integer mode"),
             (7, 0, "refusal 7: the height is not a finite number"),
             (8, 0, "refusal 8: the room is too small for what is called for"),
             (9, 41, "refusal 9: the index is damaged at place 41"),

@@ -235,8 +235,24 @@ mod tests {
         assert_eq!(Ring::with_points(&SQUARE, 4).turn(), Err(Refusal::SizesDiffer));
         let long = vec![0; 2 * 4098];
         assert_eq!(Ring::new(&long).turn(), Err(Refusal::TooManyPoints { ring: 0 }));
-        let far = [0, 0, 1_073_741_824, 0, 0, 0];
-        assert_eq!(Ring::new(&far).contains_whole(0, 0, Edge::Allowed), Err(Refusal::BeyondLimit { ring: 0 }));
+    }
+
+    /// The triangle under the diagonal of the whole range: places on it and one unit beside it.
+    #[test]
+    fn whole_places_over_the_whole_range() {
+        let (least, most) = (i32::MIN, i32::MAX);
+        let triangle = [least, least, most, least, most, most, least, least];
+        let ring = Ring::new(&triangle);
+        let held = |x, y| [Edge::Excluded, Edge::Allowed].map(|edge| ring.contains_whole(x, y, edge).unwrap());
+        for (x, y) in [(0, 0), (-2_147_483_648, -2_147_483_648), (2_147_483_647, 2_147_483_647), (5, -2_147_483_648)] {
+            assert_eq!(held(x, y), [false, true], "({x}, {y}) is on it");
+        }
+        for (x, y) in [(1, 0), (2_147_483_646, 2_147_483_645), (-2_147_483_646, -2_147_483_647)] {
+            assert_eq!(held(x, y), [true, true], "({x}, {y}) is in it");
+        }
+        for (x, y) in [(0, 1), (-2_147_483_648, 2_147_483_647), (i64::MIN, 0), (i64::MAX, i64::MAX), (0, i64::MIN)] {
+            assert_eq!(held(x, y), [false, false], "({x}, {y}) is out of it");
+        }
     }
 
     #[test]

@@ -54,7 +54,7 @@ impl Fixed {
                 2 => rings::flat(random, 5),
                 _ => rings::random(random),
             };
-            let ring = if random.one_in(2) { rings::in_integer_range(&ring) } else { ring };
+            let ring = if random.one_in(2) { rings::held_unwrapped(&ring) } else { ring };
             if ring.len() <= self.most {
                 return ring;
             }
@@ -274,7 +274,7 @@ fn inside(random: &mut Random, o: &Outline, rings: &Rings, refused: bool, tally:
         (vec![rings::sheet_square()], vec![0; 4 * rings.sizes.len()], None)
     } else {
         let mut boxes = vec![0; 4 * rings.sizes.len()];
-        outline::make(rings.lent(), rings.scale, rings.mode != 0, &mut boxes).expect("it has room");
+        outline::make(rings.lent(), rings.scale, &mut boxes).expect("it has room");
         let (options, threshold) = (options(random) | 1 << random.below(2), random.below(20));
         let called_for = needs(rings.lent(), options, threshold);
         (o.rings(), boxes, good_pools(rings, options, threshold, called_for))

@@ -254,7 +254,7 @@ pub struct RingGrid<'a> {
 
 impl Call for RingGrid<'_> {
     const NAME: &'static str = "ring_grid";
-    const ANSWERS: &'static [u32] = &[0, 1, 101, 102, 103, 104, 106];
+    const ANSWERS: &'static [u32] = &[0, 1, 101, 102, 103, 104];
 
     fn ours(&self, s: &mut Slices) -> u32 {
         let coords = s.read("coords", &self.ring.coords);
@@ -410,7 +410,7 @@ pub struct Make<'a> {
 
 impl Call for Make<'_> {
     const NAME: &'static str = "make";
-    const ANSWERS: &'static [u32] = &[0, 101, 102, 103, 104, 105, 106, 108];
+    const ANSWERS: &'static [u32] = &[0, 101, 102, 103, 104, 105, 108];
 
     #[rustfmt::skip]
     fn ours(&self, s: &mut Slices) -> u32 {
@@ -428,7 +428,7 @@ impl Call for Make<'_> {
 
     fn model(&self) -> Outcome {
         let mut boxes = self.boxes.clone();
-        let made = outline::make(self.rings.lent(), self.rings.scale, self.rings.mode != 0, &mut boxes);
+        let made = outline::make(self.rings.lent(), self.rings.scale, &mut boxes);
         let (code, value) = count(made);
         (code, rooms![value, boxes])
     }
@@ -508,7 +508,7 @@ pub struct Inside<'a> {
 
 impl Call for Inside<'_> {
     const NAME: &'static str = "inside";
-    const ANSWERS: &'static [u32] = &[0, 1, 101, 102, 103, 104, 105, 106, 109, 115];
+    const ANSWERS: &'static [u32] = &[0, 1, 101, 102, 103, 104, 105, 109, 115];
 
     #[rustfmt::skip]
     fn ours(&self, s: &mut Slices) -> u32 {
@@ -548,7 +548,7 @@ pub struct InsidePlain<'a> {
 
 impl Call for InsidePlain<'_> {
     const NAME: &'static str = "inside_plain";
-    const ANSWERS: &'static [u32] = &[0, 1, 101, 102, 103, 104, 105, 106];
+    const ANSWERS: &'static [u32] = &[0, 1, 101, 102, 103, 104, 105];
 
     #[rustfmt::skip]
     fn ours(&self, s: &mut Slices) -> u32 {

@@ -8,7 +8,7 @@ use std::fmt::Write;
 const SAID: usize = 3;
 
 /// The refusals that a call of the C interface can give.
-pub const REFUSALS: [u32; 10] = [1, 2, 3, 4, 5, 6, 7, 8, 9, 15];
+pub const REFUSALS: [u32; 9] = [1, 2, 3, 4, 5, 7, 8, 9, 15];
 
 /// What is said, and the refusals.
 const COLUMNS: usize = SAID + REFUSALS.len();

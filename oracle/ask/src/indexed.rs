@@ -96,7 +96,7 @@ fn inside(words: &mut Words) -> Result<String, Wrong> {
     let kinds = words.one_of("kinds", &["0", "1", "2", "3"])?;
     let point = words.point()?;
     let edge = words.one_of("edge rule", &["0", "1"])? == 1;
-    if let Err(no) = (Rings { sizes: &sizes, coords: &coords }).checked(scale, integer) {
+    if let Err(no) = (Rings { sizes: &sizes, coords: &coords }).checked(scale) {
         return Ok(refused(no));
     }
     let mut rest = &corners(&coords)[..];

@@ -26,9 +26,12 @@ pub fn questions() -> Vec<String> {
 /// Questions on which 01 decides against the Rust (docs/DIFFERENCES.md), with the answer that it gives.
 pub fn decided() -> Vec<(String, String)> {
     let ring = coordinates(&rings::coordinates(&[[0, 0], [0, 1], [0, 0]]));
+    let wraps = rings::wrapping();
+    let wrapping = coordinates(&rings::coordinates(&wraps));
     vec![
         ("next_up fff0000000000000".into(), "ffefffffffffffff".into()),
         (format!("grid_ring {ring} 3 8000000000000000 0 0"), "no".into()),
+        (format!("grid_ring {wrapping} 5 {} {} 0", whole(wraps[1][0]), whole(wraps[0][1])), "no".into()),
     ]
 }
 
@@ -161,23 +164,23 @@ fn choices() -> Vec<String> {
     pairs.iter().map(|pair| format!("choose_quad {}", pair.map(|b| b.map(float).join(" ")).join(" "))).collect()
 }
 
-/// Rings of up to 31 segments, whose coordinates the program has room for, and places that lie within
-/// Integer mode's range: farther away the Rust's products wrap.
+/// Rings of up to 31 segments, whose coordinates the program has room for, and places, all so near that the Rust's
+/// products do not wrap.
 fn grid_rings() -> Vec<String> {
     let mut random = Random::new(SEED, "sample grid_ring");
     let mut asked = Vec::new();
-    let most = i64::from(cases::limits::INTEGER_COORDINATE);
+    let most = i64::from(cases::limits::UNWRAPPED);
     for lent in lent::edges().into_iter().filter(|l| l.coords.len() <= 64).step_by(2) {
         asked.push((lent, [5, 5]));
     }
     for _ in 0..200 {
         let segments = 1 + random.below(31);
-        let ring = rings::in_integer_range(&rings::random_of(&mut random, segments));
+        let ring = rings::held_unwrapped(&rings::random_of(&mut random, segments));
         let p = points::random_whole(&mut random, &ring).map(|c| c.clamp(-most, most));
         let lent = if random.one_in(8) { lent::damaged(&mut random, &ring) } else { Lent::of(&ring) };
         asked.push((lent, p));
     }
-    asked.retain(|(lent, _)| lent.coords.len() <= 64);
+    asked.retain(|(lent, _)| lent.coords.len() <= 64 && lent.coords.iter().all(|c| c.unsigned_abs() < 1_500_000_000));
     let line = |(i, (lent, p)): (usize, &(Lent, [i64; 2]))| {
         format!("grid_ring {} {:x} {} {}", coordinates(&lent.coords), lent.points, p.map(whole).join(" "), i % 2)
     };
@@ -244,7 +247,7 @@ fn insides(random: &mut Random) -> Vec<String> {
         let mut shape = Vec::new();
         for _ in 0..1 + random.below(4) {
             let segments = 3 + random.below(8);
-            shape.push(rings::in_integer_range(&rings::random_of(random, segments)));
+            shape.push(rings::held_unwrapped(&rings::random_of(random, segments)));
         }
         let mode = if random.one_in(3) { Mode::Integer } else { Mode::Float };
         let good = Outline::new(&shape, *random.pick(&outlines::SCALES), mode);

@@ -81,7 +81,7 @@ pub fn edges() -> Vec<u64> {
 /// Whole numbers that 01 names, and the ends of the types that they live in.
 fn whole_limits() -> Vec<f64> {
     let mut limits = vec![
-        f64::from(limits::INTEGER_COORDINATE),
+        f64::from(limits::UNWRAPPED),
         f64::from(i32::MAX),
         f64::from(i32::MIN),
         f64::from(u32::MAX),

@@ -39,8 +39,8 @@ pub fn edges() -> Vec<Lent> {
         }
     }
     all.extend([1, 2, 3].map(|points| Lent { points, ..empty.clone() }));
-    // not closed, in one coordinate or both; beyond Integer mode's limit, at each place
-    let limit = limits::INTEGER_COORDINATE;
+    // not closed, in one coordinate or both; beyond where the Rust's products do not wrap, at each place
+    let limit = limits::UNWRAPPED;
     for at in [0, 1, 2, 5, 8, 9] {
         for z in [-1, 1, limit, limit + 1, -limit, -limit - 1, i32::MAX, i32::MIN] {
             all.push(s.with(|r| r.coords[at] = z));

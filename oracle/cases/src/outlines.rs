@@ -53,7 +53,7 @@ impl Outline {
         rings
     }
 
-    /// What 01's rules 1 to 6 say: the number and the place of the first that refuses.
+    /// What 01's rules 1 to 5 say: the number and the place of the first that refuses.
     pub fn refusal(&self) -> Option<(u32, usize)> {
         let ring = |bad: &dyn Fn(usize) -> bool| self.sizes.iter().position(|&n| bad(n));
         if self.sizes.is_empty() {
@@ -78,9 +78,7 @@ impl Outline {
         if !(self.scale.is_finite() && self.scale > 0.0) {
             return Some((5, 0));
         }
-        let beyond = |r: &Ring| r.iter().flatten().any(|c| c.unsigned_abs() > limits::INTEGER_COORDINATE as u32);
-        let k = rings.iter().position(beyond).filter(|_| self.mode == Mode::Integer);
-        k.map(|k| (6, k))
+        None
     }
 }
 
@@ -103,7 +101,9 @@ pub fn edges() -> Vec<Outline> {
         vec![s(), rings::one_point([5, 5], 1), rings::spike([3, 3], [7, 7], 2)],
         vec![rings::one_point([5, 5], 1)],
         vec![rings::one_point([5, 5], 1), s()],
-        vec![rings::square([-limits::INTEGER_COORDINATE; 2], 2 * limits::INTEGER_COORDINATE, 4), s()],
+        vec![rings::square([-limits::UNWRAPPED; 2], 2 * limits::UNWRAPPED, 4), s()],
+        vec![rings::wrapping()],
+        vec![rings::wrapping(), s()],
     ];
     for count in [limits::RINGS - 1, limits::RINGS] {
         let mut many = vec![square(0, 0, 1000)];
@@ -133,8 +133,9 @@ pub fn random(random: &mut Random) -> Outline {
         let hole = hole_of(random, &shape[0]);
         shape.push(hole);
     }
-    if mode == Mode::Integer {
-        shape = shape.iter().map(|r| rings::in_integer_range(r)).collect();
+    // beyond, the Rust's products may wrap
+    if mode == Mode::Integer && !random.one_in(4) {
+        shape = shape.iter().map(|r| rings::held_unwrapped(r)).collect();
     }
     Outline::new(&shape, random_scale(random), mode)
 }
@@ -176,7 +177,7 @@ pub fn random_query(random: &mut Random, rings: &[Ring], scale: f64) -> points::
 type Break = (u32, fn(&mut Outline));
 
 /// Every way that this file knows to break a rule.
-const BREAKS: [Break; 24] = [
+const BREAKS: [Break; 22] = [
     (1, |o| *o = Outline { sizes: vec![], coordinates: vec![], ..o.clone() }),
     (1, |o| o.sizes[0] = 1),
     (1, |o| *last(&mut o.sizes) = 0),
@@ -199,18 +200,10 @@ const BREAKS: [Break; 24] = [
     (5, |o| o.scale = f64::NAN),
     (5, |o| o.scale = f64::INFINITY),
     (5, |o| o.scale = f64::NEG_INFINITY),
-    (6, |o| beyond(o, 1, limits::INTEGER_COORDINATE + 1)),
-    (6, |o| beyond(o, 0, -limits::INTEGER_COORDINATE - 1)),
 ];
 
 fn last<T>(row: &mut [T]) -> &mut T {
     row.last_mut().expect("an outline that is broken has a ring and coordinates")
-}
-
-/// Integer mode, with the second point's coordinate beyond its limit.
-fn beyond(o: &mut Outline, which: usize, c: i32) {
-    o.mode = Mode::Integer;
-    o.coordinates[2 + which] = c;
 }
 
 /// Outlines that break one rule, in each way, and two rules, in each pair of ways.
@@ -293,8 +286,8 @@ mod tests {
         assert_eq!(refusal(&vec![ring(2); 64]), None);
         assert_eq!(refusal(&vec![ring(2); 65]), Some((2, 64)));
         let integer = |c| Outline::new(&[rings::one_point([c, 0], 1)], 1.0, Mode::Integer).refusal();
-        assert_eq!(integer(1_073_741_823), None);
-        assert_eq!(integer(1_073_741_824), Some((6, 0)));
-        assert_eq!(integer(-1_073_741_824), Some((6, 0)));
+        for c in [1_073_741_824, -1_073_741_824, i32::MAX, i32::MIN] {
+            assert_eq!(integer(c), None);
+        }
     }
 }

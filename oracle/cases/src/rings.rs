@@ -109,20 +109,20 @@ pub fn scatter(random: &mut Random, low: i32, high: i32, segments: usize) -> Rin
     closed((0..segments).map(|_| [any(), any()]).collect())
 }
 
-/// Corners at the ends of i32 and of Integer mode's range, and next to them.
+/// Corners at the ends of i32 and of where the Rust's products do not wrap, and next to them.
 pub fn extremes(random: &mut Random, segments: usize) -> Ring {
     const ENDS: [i32; 13] = [
         i32::MIN,
         i32::MIN + 1,
-        -limits::INTEGER_COORDINATE - 1,
-        -limits::INTEGER_COORDINATE,
+        -limits::UNWRAPPED - 1,
+        -limits::UNWRAPPED,
         -16_777_216,
         -1,
         0,
         1,
         16_777_216,
-        limits::INTEGER_COORDINATE,
-        limits::INTEGER_COORDINATE + 1,
+        limits::UNWRAPPED,
+        limits::UNWRAPPED + 1,
         i32::MAX - 1,
         i32::MAX,
     ];
@@ -244,8 +244,8 @@ pub fn edges() -> Vec<Named> {
             add("square", square([0, 0], 10, segments));
             add("square of side 1 far from 0", square([2_147_483_610, 1_244_463_401], 1, segments));
             add(
-                "square of Integer mode's range",
-                square([-limits::INTEGER_COORDINATE; 2], 2 * limits::INTEGER_COORDINATE, segments),
+                "square as large as the Rust's products allow",
+                square([-limits::UNWRAPPED; 2], 2 * limits::UNWRAPPED, segments),
             );
         }
         add("circle", circle([0.0, 0.0], 1_000_000.0, segments));
@@ -332,10 +332,17 @@ pub fn damaged(random: &mut Random, good: &[Corner]) -> Ring {
     closed(corners)
 }
 
-/// The same ring with every coordinate held to Integer mode's range.
-pub fn in_integer_range(ring: &[Corner]) -> Ring {
-    let most = limits::INTEGER_COORDINATE;
+/// The same ring with every coordinate held to where the Rust's products do not wrap.
+pub fn held_unwrapped(ring: &[Corner]) -> Ring {
+    let most = limits::UNWRAPPED;
     ring.iter().map(|c| c.map(|x| x.clamp(-most, most))).collect()
+}
+
+/// The smallest coordinates with which the Rust's products wrap: with the place (1,518,500,250, -1,518,500,250), which
+/// lies outside, it says inside.
+pub fn wrapping() -> Ring {
+    const END: i32 = 1_518_500_250;
+    vec![[-END, -END], [END, END], [-END, END], [-END, 0], [-END, -END]]
 }
 
 #[cfg(test)]

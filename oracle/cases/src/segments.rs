@@ -18,19 +18,10 @@ pub fn half_steps(side: i32) -> Vec<Place> {
     steps().flat_map(|x| steps().flat_map(move |y| points::around([x, y]))).collect()
 }
 
-/// Each kind of segment, small, large, and at the ends of i32 and of Integer mode's range; each both ways round.
+/// Each kind of segment, small, large, at the ends of i32 and of where the Rust's products do not wrap; each both ways round.
 pub fn edges() -> Vec<Ends> {
-    const PLACES: [i32; 9] = [
-        0,
-        1,
-        -7,
-        1 << 24,
-        limits::INTEGER_COORDINATE,
-        -limits::INTEGER_COORDINATE,
-        limits::INTEGER_COORDINATE + 1,
-        i32::MAX,
-        i32::MIN,
-    ];
+    const PLACES: [i32; 9] =
+        [0, 1, -7, 1 << 24, limits::UNWRAPPED, -limits::UNWRAPPED, limits::UNWRAPPED + 1, i32::MAX, i32::MIN];
     const STEPS: [[i32; 2]; 9] =
         [[0, 0], [1, 0], [0, 1], [1, 1], [3, -2], [1000, 1], [1, 1000], [i32::MAX, 1], [i32::MAX, i32::MAX]];
     let mut all = Vec::new();
@@ -63,10 +54,33 @@ pub fn random(random: &mut Random) -> Ends {
     }
 }
 
-/// The same segment with every coordinate held to Integer mode's range.
-pub fn in_integer_range(ends: Ends) -> Ends {
-    let most = limits::INTEGER_COORDINATE;
+/// The same segment with every coordinate held to where the Rust's products do not wrap.
+pub fn held_unwrapped(ends: Ends) -> Ends {
+    let most = limits::UNWRAPPED;
     ends.map(|c| c.map(|x| x.clamp(-most, most)))
+}
+
+/// Segments as long as the range, or as its diagonal: each end at an end of i32, or one or two units from it.
+pub fn as_long_as_the_range() -> Vec<Ends> {
+    const ENDS: [i32; 6] = [i32::MIN, i32::MIN + 1, i32::MIN + 2, i32::MAX - 2, i32::MAX - 1, i32::MAX];
+    let corners = || ENDS.into_iter().flat_map(|x| ENDS.into_iter().map(move |y| [x, y]));
+    corners().flat_map(|a| corners().map(move |b| [a, b])).collect()
+}
+
+/// Places on the segment where it meets the grid, or as near to it as that comes, each with the places one unit from it.
+pub fn near_the_line([a, b]: Ends) -> Vec<Corner> {
+    let [from, to] = [a, b].map(|c| c.map(i128::from));
+    let mut places = Vec::new();
+    for part in [0, 1, 5, 8, 11, 15, 16] {
+        let on = [0, 1].map(|i| from[i] + (to[i] - from[i]) * part / 16);
+        for dx in -1..=1 {
+            for dy in -1..=1 {
+                let clamped = [on[0] + dx, on[1] + dy].map(|c| c.clamp(i32::MIN.into(), i32::MAX.into()) as i32);
+                places.push(clamped);
+            }
+        }
+    }
+    places
 }
 
 #[cfg(test)]
@@ -94,7 +108,7 @@ mod tests {
         for _ in 0..1000 {
             let ends = random(&mut r);
             points::random(&mut r, &ends);
-            points::random_whole(&mut r, &in_integer_range(ends));
+            points::random_whole(&mut r, &held_unwrapped(ends));
         }
     }
 }

@@ -1,7 +1,7 @@
 //! Whole outlines: the rules, the record of boxes, the inside question, building. What is lent, and in
 //! which form, is docs/DECISIONS.md's.
 
-use crate::ring::{beyond, grid_test, ring_scan, Ring};
+use crate::ring::{grid_test, ring_scan, Ring};
 use crate::{pour, stripes, tree, Answer, Count, No, NO_ROOM};
 use cases::limits;
 
@@ -57,31 +57,28 @@ impl<'a> Rings<'a> {
         self.closed()
     }
 
-    /// Rules 5 and 6.
-    fn fit(&self, scale: f64, integer: bool) -> Result<(), No> {
+    /// Rule 5.
+    fn fit(&self, scale: f64) -> Result<(), No> {
         if !(scale.is_finite() && scale > 0.0) {
             return Err((5, 0));
         }
-        match self.lowest(|k| integer && self.ring(k).coords.iter().any(|&z| beyond(z))) {
-            Some(k) => Err((6, k)),
-            None => Ok(()),
-        }
+        Ok(())
     }
 
-    /// Rules 1 to 6.
-    pub fn checked(&self, scale: f64, integer: bool) -> Result<(), No> {
+    /// Rules 1 to 5.
+    pub fn checked(&self, scale: f64) -> Result<(), No> {
         self.shaped()?;
-        self.fit(scale, integer)
+        self.fit(scale)
     }
 
     /// The same, where a record of four numbers a ring comes with the coordinates.
-    fn checked_with(&self, boxes: &[i32], scale: f64, integer: bool) -> Result<(), No> {
+    fn checked_with(&self, boxes: &[i32], scale: f64) -> Result<(), No> {
         self.sized()?;
         if boxes.len() < 4 * self.sizes.len() {
             return Err((3, 0));
         }
         self.closed()?;
-        self.fit(scale, integer)
+        self.fit(scale)
     }
 
     fn all(&self) -> impl Iterator<Item = Ring<'a>> + '_ {
@@ -90,8 +87,8 @@ impl<'a> Rings<'a> {
 }
 
 /// The record: each ring's box. Says how many rings there are.
-pub fn make(rings: Rings, scale: f64, integer: bool, boxes: &mut [i32]) -> Count {
-    let made = rings.checked(scale, integer).map(|()| rings.all().flat_map(|ring| ring.bounds()).collect());
+pub fn make(rings: Rings, scale: f64, boxes: &mut [i32]) -> Count {
+    let made = rings.checked(scale).map(|()| rings.all().flat_map(|ring| ring.bounds()).collect());
     pour(made, boxes).map(|numbers| numbers / 4)
 }
 
@@ -179,7 +176,7 @@ pub struct Asked {
 
 pub fn inside(rings: Rings, boxes: &[i32], asked: Asked, indexes: &Indexes) -> Answer {
     let Asked { scale, integer, edge, x, y } = asked;
-    rings.checked_with(boxes, scale, integer)?;
+    rings.checked_with(boxes, scale)?;
     let (sx, sy) = (x * scale, y * scale);
     if ![x, y, sx, sy].iter().all(|c| c.is_finite()) {
         return Ok(false);
@@ -208,7 +205,7 @@ pub fn inside(rings: Rings, boxes: &[i32], asked: Asked, indexes: &Indexes) -> A
 /// The same by the points alone: no record and no index.
 pub fn inside_plain(rings: Rings, asked: Asked) -> Answer {
     let Asked { scale, integer, edge, x, y } = asked;
-    rings.checked(scale, integer)?;
+    rings.checked(scale)?;
     let (sx, sy) = (x * scale, y * scale);
     if ![x, y, sx, sy].iter().all(|c| c.is_finite()) {
         return Ok(false);

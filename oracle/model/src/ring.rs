@@ -35,15 +35,6 @@ impl<'a> Ring<'a> {
         Ok(ring)
     }
 
-    /// Rules 1 to 4, then 6.
-    pub fn checked_grid(coords: &'a [i32], points: usize) -> Result<Self, No> {
-        let ring = Ring::checked(coords, points)?;
-        if coords.iter().any(|&z| beyond(z)) {
-            return Err((6, 0));
-        }
-        Ok(ring)
-    }
-
     pub fn point(&self, i: usize) -> (i32, i32) {
         (self.coords[2 * i], self.coords[2 * i + 1])
     }
@@ -69,11 +60,6 @@ impl<'a> Ring<'a> {
         }
         bounds
     }
-}
-
-/// Beyond Integer mode's limit.
-pub fn beyond(z: i32) -> bool {
-    i64::from(z).abs() > i64::from(limits::INTEGER_COORDINATE)
 }
 
 impl Segment {
@@ -154,11 +140,18 @@ pub fn raycast(s: Segment, px: f64, py: f64) -> Ray {
     }
 }
 
-/// The whole-number test of a segment, exact: 128 bits hold every product.
-pub fn grid(s: Segment, x: i64, y: i64) -> Ray {
+/// The cross of a segment and a whole place, exact: 128 bits hold every product.
+pub fn cross(s: Segment, x: i64, y: i64) -> i128 {
     let [ax, ay, bx, by] = [s.a.0, s.a.1, s.b.0, s.b.1].map(i128::from);
     let [px, py] = [x, y].map(i128::from);
-    let cross = (bx - ax) * (py - ay) - (by - ay) * (px - ax);
+    (bx - ax) * (py - ay) - (by - ay) * (px - ax)
+}
+
+/// The whole-number test of a segment.
+pub fn grid(s: Segment, x: i64, y: i64) -> Ray {
+    let [ax, ay, bx, by] = [s.a.0, s.a.1, s.b.0, s.b.1].map(i64::from);
+    let [px, py] = [x, y];
+    let cross = cross(s, x, y);
     let boxed = ax.min(bx) <= px && px <= ax.max(bx) && ay.min(by) <= py && py <= ay.max(by);
     if cross == 0 && boxed {
         Ray::On
@@ -167,14 +160,6 @@ pub fn grid(s: Segment, x: i64, y: i64) -> Ray {
     } else {
         Ray::Neither
     }
-}
-
-/// Rule 6 is a segment's too.
-pub fn segment_grid(s: Segment, x: i64, y: i64) -> Result<Ray, No> {
-    if [s.a.0, s.a.1, s.b.0, s.b.1].into_iter().any(beyond) {
-        return Err((6, 0));
-    }
-    Ok(grid(s, x, y))
 }
 
 /// The ring test over what each listed segment says.
@@ -213,13 +198,13 @@ pub fn ring_scan(coords: &[i32], points: usize, x: f64, y: f64, edge: bool) -> A
     Ok(x.is_finite() && y.is_finite() && test_listed(ring, &meeting(ring, y), x, y, edge))
 }
 
-/// The whole-number test of a ring that passed rule 6.
+/// The whole-number test of a ring.
 pub fn grid_test(ring: Ring, x: i64, y: i64, edge: bool) -> bool {
     test_said((0..ring.segments()).map(|i| grid(ring.segment(i), x, y)), edge)
 }
 
 pub fn ring_grid(coords: &[i32], points: usize, x: i64, y: i64, edge: bool) -> Answer {
-    Ring::checked_grid(coords, points).map(|ring| grid_test(ring, x, y, edge))
+    Ring::checked(coords, points).map(|ring| grid_test(ring, x, y, edge))
 }
 
 #[derive(Clone, Copy, Debug, PartialEq, Eq)]

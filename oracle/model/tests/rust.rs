@@ -132,12 +132,12 @@ fn ring_tests() {
 fn whole_number_tests() {
     let mut random = Random::new(SEED, "whole numbers");
     for corners in all_rings("whole numbers") {
-        let corners = rings::in_integer_range(&corners);
+        let corners = rings::held_unwrapped(&corners);
         let (rust, coords) = (theirs(&corners), rings::coordinates(&corners));
         for _ in 0..20 {
             let [x, y] = points::random_whole(&mut random, &corners);
             // farther away the Rust's products wrap
-            if [x, y].iter().any(|c| c.unsigned_abs() > limits::INTEGER_COORDINATE as u64) {
+            if [x, y].iter().any(|c| c.unsigned_abs() > limits::UNWRAPPED as u64) {
                 continue;
             }
             for edge in [false, true] {
@@ -146,6 +146,23 @@ fn whole_number_tests() {
             }
         }
     }
+}
+
+/// The smallest coordinates with which the Rust's products wrap: built for release it says inside of a place that lies
+/// outside, built for debugging it panics.
+#[test]
+#[cfg_attr(debug_assertions, should_panic(expected = "overflow"))]
+fn where_the_rust_wraps() {
+    let corners = rings::wrapping();
+    let [x, y] = [corners[1][0], corners[0][1]];
+    assert_eq!(ring::ring_grid(&rings::coordinates(&corners), corners.len(), x.into(), y.into(), false), Ok(false));
+    let o = outlines::Outline::new(&[corners.clone()], 1.0, outlines::Mode::Integer);
+    let p = Point { x: x.into(), y: y.into() };
+    assert!(polygon(&o, options(false, false, 0)).contains_point(p));
+    // one unit less each way, it does not
+    let less: Vec<_> = corners.iter().map(|c| c.map(|z| z - z.signum())).collect();
+    let o = outlines::Outline::new(&[less], 1.0, outlines::Mode::Integer);
+    assert!(!polygon(&o, options(false, false, 0)).contains_point(Point { x: p.x - 1.0, y: p.y + 1.0 }));
 }
 
 /// The rings of an outline as the Rust takes them.
@@ -246,7 +263,7 @@ fn whole_outlines() {
         let rings = Rings { sizes: &sizes, coords: &o.coordinates };
         let integer = o.mode == outlines::Mode::Integer;
         let mut boxes = vec![7; 4 * sizes.len()];
-        assert_eq!(outline::make(rings, o.scale, integer, &mut boxes), Ok(sizes.len() as u64));
+        assert_eq!(outline::make(rings, o.scale, &mut boxes), Ok(sizes.len() as u64));
 
         let (stripes, tree) = *random.pick(&[(false, false), (true, false), (false, true), (true, true)]);
         let threshold = *random.pick(&[0, 5, 64]);
@@ -276,6 +293,10 @@ fn whole_outlines() {
         }
         let Lent { table, spans, stripes, list, bytes, .. } = &lent;
         let indexes = Indexes { table, spans, stripes, list, bytes };
+        // beyond this the Rust's products may wrap
+        if integer && o.coordinates.iter().any(|c| c.unsigned_abs() > limits::UNWRAPPED as u32) {
+            continue;
+        }
         for _ in 0..20 {
             let [x, y] = outlines::random_query(&mut random, &o.rings(), o.scale);
             for edge in [false, true] {
@@ -300,8 +321,7 @@ fn rules() {
     for o in all {
         let sizes: Vec<u32> = o.sizes.iter().map(|&n| n.min(u32::MAX as usize) as u32).collect();
         let rings = Rings { sizes: &sizes, coords: &o.coordinates };
-        let integer = o.mode == outlines::Mode::Integer;
         let refusal = o.refusal().map(|(number, place)| (number, place as u64));
-        assert_eq!(rings.checked(o.scale, integer).err(), refusal, "{o:?}");
+        assert_eq!(rings.checked(o.scale).err(), refusal, "{o:?}");
     }
 }

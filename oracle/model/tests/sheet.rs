@@ -14,7 +14,7 @@ fn inside(rings: &[[i32; 10]], integer: bool, x: f64, y: f64) -> [bool; 2] {
     let sizes = vec![5; rings.len()];
     let rings = Rings { sizes: &sizes, coords: &coords };
     let mut boxes = vec![7; 4 * sizes.len()];
-    assert_eq!(outline::make(rings, 1.0, integer, &mut boxes), Ok(sizes.len() as u64));
+    assert_eq!(outline::make(rings, 1.0, &mut boxes), Ok(sizes.len() as u64));
     [false, true].map(|edge| {
         let asked = Asked { scale: 1.0, integer, edge, x, y };
         outline::inside(rings, &boxes, asked, &NONE).expect("S and H are accepted")
@@ -56,11 +56,11 @@ fn records() {
     assert_eq!(ask(&open, &[0, 0, 10]), Err((3, 0)));
     assert_eq!(ask(&open, &[0, 0, 10, 10]), Err((4, 0)));
     let mut boxes = [7; 5];
-    assert_eq!(outline::make(Rings { sizes: &[5], coords: &S }, 1.0, false, &mut boxes), Ok(1));
+    assert_eq!(outline::make(Rings { sizes: &[5], coords: &S }, 1.0, &mut boxes), Ok(1));
     assert_eq!(boxes, [0, 0, 10, 10, 0]);
-    assert_eq!(outline::make(Rings { sizes: &[5], coords: &S }, 1.0, false, &mut boxes[..3]), Err((8, 0)));
+    assert_eq!(outline::make(Rings { sizes: &[5], coords: &S }, 1.0, &mut boxes[..3]), Err((8, 0)));
     assert_eq!(boxes, [0, 0, 0, 10, 0]);
-    assert_eq!(outline::make(Rings { sizes: &[5], coords: &S }, 0.0, false, &mut boxes), Err((5, 0)));
+    assert_eq!(outline::make(Rings { sizes: &[5], coords: &S }, 0.0, &mut boxes), Err((5, 0)));
     assert_eq!(boxes, [0, 0, 0, 10, 0]);
 }
 

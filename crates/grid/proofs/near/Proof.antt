@@ -1,38 +1,55 @@
--- In the box a cross of 0 is "on"; any other goes by its sign.
-use mathlib.Core.Path.{_≡_}
-use mir.Syntax.{w64}
+-- In the box the place is an i32, and the sign of the cross decides.
+use mathlib.Core.Path.{_≡_, refl, sym, _∙_}
+use mir.Syntax.{w32}
 use mir.Val.{SFits}
 use mir.Facts.{toZ-ofZ}
-use Rattle.rings.proofs.Whole.{zero-bits, some-bits}
-use Rattle.grid.specs.Grid.{cross, isOn, isFlip}
+use borrow.Author.Needs.{needs}
+use Rattle.cross.specs.Cross.{cross, signOf}
+use Rattle.grid.proofs.Within.{box-fits}
+use Rattle.grid.proofs.Results.{near-zero, near-above, near-below}
 use Rattle.grid.proofs.near.Statement.{statement}
 use Rattle.grid.proofs.near.Tie as tie
 
-cross-of-requires : tie.Need-cross-of-requires
-cross-of-requires c κs = let f = c .fits in
-    rw (toZ-ofZ (f .ax), toZ-ofZ (f .ay), toZ-ofZ (f .bx), toZ-ofZ (f .by), toZ-ofZ (f .px), toZ-ofZ (f .py)) (c .pre .0)
+narrow : (c : tie.Start) → SFits w32 (c .args .px) × SFits w32 (c .args .py)
+narrow c = let a = c .args in let f = c .fits in
+    box-fits (a .ax) (a .ay) (a .bx) (a .by) (a .px) (a .py) (f .ax) (f .ay) (f .bx) (f .by) (c .pre)
 
-told : (c : tie.After-cross-of) → let a = c .before .args in c .cross-of .result ≡ cross (a .ax) (a .ay) (a .bx) (a .by) (a .px) (a .py)
-told c = let f = c .before .fits in
-    rw (toZ-ofZ (f .ax), toZ-ofZ (f .ay), toZ-ofZ (f .bx), toZ-ofZ (f .by), toZ-ofZ (f .px), toZ-ofZ (f .py)) at (c .cross-of .ensures)
+cast-x : tie.Need-cast-x
+cast-x c = rw (toZ-ofZ (c .fits .px)) (narrow c .0)
 
-fits : (c : tie.After-cross-of) → SFits w64 (c .cross-of .result)
-fits c = record { sfits = c .cross-of .ok }
+cast-y : tie.Need-cast-y
+cast-y c = rw (toZ-ofZ (c .fits .py)) (narrow c .1)
+
+side : (c : tie.After-cross-sign) → let a = c .before .args in c .cross-sign .result ≡ signOf (cross (a .ax) (a .ay) (a .bx) (a .by) (a .px) (a .py))
+side c = let s = c .before in let f = s .fits in
+    rw (toZ-ofZ (f .ax), toZ-ofZ (f .ay), toZ-ofZ (f .bx), toZ-ofZ (f .by), toZ-ofZ (f .px), toZ-ofZ (f .py), toZ-ofZ (narrow s .0), toZ-ofZ (narrow s .1)) at (c .cross-sign .ensures)
 
 returns : tie.Need-returns
-unfolding isOn
-returns c = let b = c .before in
-    rw (← (told b), zero-bits w64 (b .cross-of .result) (fits b) (c .if1 .taken), b .before .pre .1)
+returns c = let b = c .before .before in let s = b .before in let a = s .args in
+    near-zero (a .ax) (a .ay) (a .bx) (a .by) (a .px) (a .py) (s .pre) (sym (side b) ∙ c .enum-told .given .1)
 
 returns-2 : tie.Need-returns-2
-unfolding isOn isFlip
-returns-2 c = let b = c .before .before in let f = b .before .fits in
-    rw (← (told b), some-bits w64 (b .cross-of .result) (c .before .if1 .left), rw (toZ-ofZ (f .ay), toZ-ofZ (f .by), toZ-ofZ (f .py), toZ-ofZ (fits b)) at (c .if2 .taken))
+returns-2 c = let b = c .before .before .before in let s = b .before in let a = s .args in let f = s .fits in
+    rw (toZ-ofZ (f .ay), toZ-ofZ (f .by), toZ-ofZ (f .py), toZ-ofZ (narrow s .1)) at (c .told .ensures)
+    ∙ near-above (a .ax) (a .ay) (a .bx) (a .by) (a .px) (a .py) (sym (side b) ∙ c .before .enum-told2 .given .1)
 
 returns-3 : tie.Need-returns-3
-unfolding isOn isFlip
-returns-3 c = let b = c .before .before in let f = b .before .fits in
-    rw (← (told b), some-bits w64 (b .cross-of .result) (c .before .if1 .left), rw (toZ-ofZ (f .ay), toZ-ofZ (f .by), toZ-ofZ (f .py), toZ-ofZ (fits b)) at (c .if2 .left))
+returns-3 c = let b = c .before .before .before in let s = b .before in let a = s .args in let f = s .fits in
+    rw (toZ-ofZ (f .ay), toZ-ofZ (f .by), toZ-ofZ (f .py), toZ-ofZ (narrow s .1)) at (c .told2 .ensures)
+    ∙ near-below (a .ax) (a .ay) (a .bx) (a .by) (a .px) (a .py) (sym (side b) ∙ c .before .enum-told3 .given .1)
 
 pub near-spec : {M : Type 1} → statement M
-near-spec = tie.close (tie.spec cross-of-requires returns returns-2 returns-3)
+near-spec =
+    tie.close
+    (tie.spec
+    cast-x
+    cast-y
+    (λ c κs. search needs)
+    (λ c. search needs)
+    (λ c. search needs)
+    (λ c κs. search needs)
+    (λ c. search needs)
+    (λ c κs. search needs)
+    returns
+    returns-2
+    returns-3)

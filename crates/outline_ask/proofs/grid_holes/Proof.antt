@@ -8,10 +8,11 @@ use lib.ListN.{length}
 use mir.Syntax.{w64}
 use mir.Val.{toZ, ofZ}
 use mir.Facts.{toZ-ofZ}
+use Rattle.answers.specs.Answers.{said}
 use Rattle.outline_check.specs.Outline.{startOf}
 use Rattle.outline_check.proofs.Starts.{start-none, start-more, part-within}
 use Rattle.outline_ask.specs.Inside.{gridTest}
-use Rattle.outline_ask.proofs.Rings.{Unsettled, holes-done, hole-holds, hole-refused, hole-passed}
+use Rattle.outline_ask.proofs.Rings.{Unsettled, holes-done, hole-holds, hole-passed}
 use Rattle.outline_ask.proofs.grid_holes.Statement.{statement}
 use Rattle.outline_ask.proofs.grid_holes.Tie as tie
 
@@ -23,66 +24,57 @@ abbrev μ-loop : tie.MeasureT-loop
 μ-loop sizes coords px py at₀ k₀ at k = length sizes - k
 
 shared-slice-read-at : tie.Need-shared-slice-read-at Inv-loop μ-loop
-shared-slice-read-at c = let s = c .before .before in omega (arith, s .pre .counted .some)
+shared-slice-read-at c = let s = c .before .before in omega (arith, s .pre .some)
 
 cast-at : tie.Need-cast-at Inv-loop μ-loop
-cast-at c = let s = c .before .before in omega (arith, s .pre .counted .small 0 (s .pre .counted .some))
+cast-at c = let s = c .before .before in omega (arith, s .pre .small 0 (s .pre .some))
 
 mul-at : tie.Need-mul-at Inv-loop μ-loop
-mul-at c = let s = c .before .before in omega (arith, s .pre .counted .small 0 (s .pre .counted .some))
+mul-at c = let s = c .before .before in omega (arith, s .pre .small 0 (s .pre .some))
 
 loop-holds : tie.Need-loop-holds Inv-loop μ-loop
 loop-holds c =
     let s = c .before .before in
     let a = s .args in
-    (omega (arith, start-none (a .sizes .now), start-more (a .sizes .now) 0), refl, s .pre .counted .some)
+    (omega (arith, start-none (a .sizes .now), start-more (a .sizes .now) 0), refl, s .pre .some)
 
 grid-at-requires : tie.Need-grid-at-requires Inv-loop μ-loop
 grid-at-requires c κs = let l = c .before .loop in (c .before .before .before .before .pre, c .loop-test .taken, l .inv .0)
 
 returns : tie.Need-returns Inv-loop μ-loop
 returns c =
-    let l = c .before .before .before .before .loop in
-    let s = c .before .before .before .before .before .before .before in
+    let l = c .before .before .before .loop in
+    let s = c .before .before .before .before .before .before in
     let a = s .args in
     rw (toZ-ofZ (s .fits .px), toZ-ofZ (s .fits .py)) at
-    (hole-holds (λ j. gridTest (a .sizes .now) (a .coords .now) (toZ w64 (ofZ w64 (a .px))) (toZ w64 (ofZ w64 (a .py))) j false) (length (a .sizes .now)) (l .k) (c .before .before .before .loop-test .taken) (l .inv .1)
-    (sym (c .before .before .grid-at .ensures) ∙ c .enum-told .given .1))
-
-returns-2 : tie.Need-returns-2 Inv-loop μ-loop
-returns-2 c =
-    let l = c .before .before .before .before .before .loop in
-    let s = c .before .before .before .before .before .before .before .before in
-    let a = s .args in
-    rw (toZ-ofZ (s .fits .px), toZ-ofZ (s .fits .py)) at
-    (hole-refused (λ j. gridTest (a .sizes .now) (a .coords .now) (toZ w64 (ofZ w64 (a .px))) (toZ w64 (ofZ w64 (a .py))) j false) (length (a .sizes .now)) (l .k) (c .before .before .before .before .loop-test .taken) (l .inv .1) _
-    (sym (c .before .before .before .grid-at .ensures) ∙ c .before .why .given .1))
+    (hole-holds (λ j. gridTest (a .sizes .now) (a .coords .now) (toZ w64 (ofZ w64 (a .px))) (toZ w64 (ofZ w64 (a .py))) j false) (length (a .sizes .now)) (l .k) (c .before .before .loop-test .taken) (l .inv .1)
+    (ap said (sym (c .before .grid-at .ensures) ∙ c .if1 .taken)))
 
 cast-at-2 : tie.Need-cast-at-2 Inv-loop μ-loop
-cast-at-2 c = let s = c .before .before .before .before .before .before .before .before in omega (arith, s .pre .counted .small (c .before .before .before .before .before .loop .k) (c .before .before .before .before .loop-test .taken))
+cast-at-2 c = let s = c .before .before .before .before .before .before .before in omega (arith, s .pre .small (c .before .before .before .before .loop .k) (c .before .before .before .loop-test .taken))
 
 mul-at-3 : tie.Need-mul-at-3 Inv-loop μ-loop
-mul-at-3 c = let s = c .before .before .before .before .before .before .before .before in omega (arith, s .pre .counted .small (c .before .before .before .before .before .loop .k) (c .before .before .before .before .loop-test .taken))
+mul-at-3 c = let s = c .before .before .before .before .before .before .before in omega (arith, s .pre .small (c .before .before .before .before .loop .k) (c .before .before .before .loop-test .taken))
 
 add-at : tie.Need-add-at Inv-loop μ-loop
 add-at c =
-    let s = c .before .before .before .before .before .before .before .before in
-    let l = c .before .before .before .before .before .loop in
-    omega (arith, part-within (s .pre .counted) (l .k) (c .before .before .before .before .loop-test .taken), l .inv .0)
+    let s = c .before .before .before .before .before .before .before in
+    let l = c .before .before .before .before .loop in
+    omega (arith, part-within (s .pre) (l .k) (c .before .before .before .loop-test .taken), l .inv .0)
 
 loop-again : tie.Need-loop-again Inv-loop μ-loop
 loop-again c =
-    let s = c .before .before .before .before .before .before .before .before in
-    let l = c .before .before .before .before .before .loop in
+    let s = c .before .before .before .before .before .before .before in
+    let l = c .before .before .before .before .loop in
     let a = s .args in (
       omega (arith, start-more (a .sizes .now) (l .k), l .inv .0),
-      hole-passed (λ j. gridTest (a .sizes .now) (a .coords .now) (toZ w64 (ofZ w64 (a .px))) (toZ w64 (ofZ w64 (a .py))) j false) (length (a .sizes .now)) (l .k) (c .before .before .before .before .loop-test .taken) (l .inv .1)
-          (sym (c .before .before .before .grid-at .ensures) ∙ c .before .enum-told2 .given .1),
-      omega (arith, c .before .before .before .before .loop-test .taken),
+      hole-passed (λ j. gridTest (a .sizes .now) (a .coords .now) (toZ w64 (ofZ w64 (a .px))) (toZ w64 (ofZ w64 (a .py))) j false) (length (a .sizes .now)) (l .k) (c .before .before .before .loop-test .taken) (l .inv .1)
+          (ap said (sym (c .before .before .grid-at .ensures) ∙ c .before .if1 .left)),
+      omega (arith, c .before .before .before .loop-test .taken),
     )
 
-returns-3 : tie.Need-returns-3 Inv-loop μ-loop
-returns-3 c =
+returns-2 : tie.Need-returns-2 Inv-loop μ-loop
+returns-2 c =
     let l = c .before .loop in
     let s = c .before .before .before .before in
     let a = s .args in
@@ -100,11 +92,7 @@ grid-holes-spec =
     mul-at
     loop-holds
     grid-at-requires
-    (λ c. search needs)
     returns
-    (λ c. search needs)
-    returns-2
-    (λ c. search needs)
     (λ c. search needs)
     (λ c. search needs)
     cast-at-2
@@ -113,4 +101,4 @@ grid-holes-spec =
     (λ c. search needs)
     (λ c. search needs)
     loop-again
-    returns-3)
+    returns-2)

@@ -4,11 +4,12 @@ use native.Mathlib.Omega.{arith}
 use mir.Facts.{toZ-ofZ}
 use borrow.Author.Needs.{needs}
 use borrow.Author.Tests.{not-true, not-false}
+use Rattle.answers.specs.Answers.{said}
 use Rattle.outline_check.specs.Outline.{rings}
 use Rattle.outline_check.proofs.Starts.{start-none}
 use Rattle.outline_record.specs.Record.{gridBoxHolds}
 use Rattle.outline_ask.specs.Inside.{gridTest}
-use Rattle.outline_ask.proofs.Rings.{out-of-box, exterior-passes, exterior-refused, exterior-holds}
+use Rattle.outline_ask.proofs.Rings.{out-of-box, exterior-passes, exterior-holds}
 use Rattle.outline_ask.proofs.grid_inside.Statement.{statement}
 use Rattle.outline_ask.proofs.grid_inside.Tie as tie
 
@@ -20,31 +21,24 @@ returns c =
     (sym (rw (toZ-ofZ (s .fits .px), toZ-ofZ (s .fits .py)) at (c .before .grid-box-holds .ensures)) ∙ not-true _ (c .if1 .taken))
 
 grid-at-requires : tie.Need-grid-at-requires
-grid-at-requires c κs = let s = c .before .before .before in (s .pre, s .pre .counted .some, omega (arith, start-none (s .args .sizes .now)))
+grid-at-requires c κs = let s = c .before .before .before in (s .pre, s .pre .some, omega (arith, start-none (s .args .sizes .now)))
 
 returns-2 : tie.Need-returns-2
 returns-2 c =
-    let s = c .before .before .before .before .before .before .before in
+    let s = c .before .before .before .before .before in
     let a = s .args in
-    exterior-holds (gridBoxHolds (a .boxes .now) 0 (a .px) (a .py)) (gridTest (a .sizes .now) (a .coords .now) (a .px) (a .py)) (rings (a .sizes .now)) (a .edge)
-    (sym (rw (toZ-ofZ (s .fits .px), toZ-ofZ (s .fits .py)) at (c .before .before .before .before .before .grid-box-holds .ensures)) ∙ not-false _ (c .before .before .before .before .if1 .left)) _
-    (sym (rw (toZ-ofZ (s .fits .px), toZ-ofZ (s .fits .py)) at (c .before .before .before .grid-at .ensures)) ∙ c .before .enum-told .given .1) (rw (toZ-ofZ (s .fits .px), toZ-ofZ (s .fits .py)) at (c .grid-holes .ensures))
+    exterior-passes (gridBoxHolds (a .boxes .now) 0 (a .px) (a .py)) (gridTest (a .sizes .now) (a .coords .now) (a .px) (a .py)) (rings (a .sizes .now)) (a .edge)
+    (sym (rw (toZ-ofZ (s .fits .px), toZ-ofZ (s .fits .py)) at (c .before .before .before .grid-box-holds .ensures)) ∙ not-false _ (c .before .before .if1 .left))
+    (ap said (sym (rw (toZ-ofZ (s .fits .px), toZ-ofZ (s .fits .py)) at (c .before .grid-at .ensures)) ∙ not-true _ (c .if2 .taken)))
 
 returns-3 : tie.Need-returns-3
 returns-3 c =
     let s = c .before .before .before .before .before .before in
     let a = s .args in
-    exterior-passes (gridBoxHolds (a .boxes .now) 0 (a .px) (a .py)) (gridTest (a .sizes .now) (a .coords .now) (a .px) (a .py)) (rings (a .sizes .now)) (a .edge)
-    (sym (rw (toZ-ofZ (s .fits .px), toZ-ofZ (s .fits .py)) at (c .before .before .before .before .grid-box-holds .ensures)) ∙ not-false _ (c .before .before .before .if1 .left))
-    (sym (rw (toZ-ofZ (s .fits .px), toZ-ofZ (s .fits .py)) at (c .before .before .grid-at .ensures)) ∙ c .enum-told2 .given .1)
-
-returns-4 : tie.Need-returns-4
-returns-4 c =
-    let s = c .before .before .before .before .before .before .before in
-    let a = s .args in
-    exterior-refused (gridBoxHolds (a .boxes .now) 0 (a .px) (a .py)) (gridTest (a .sizes .now) (a .coords .now) (a .px) (a .py)) (rings (a .sizes .now)) (a .edge)
-    (sym (rw (toZ-ofZ (s .fits .px), toZ-ofZ (s .fits .py)) at (c .before .before .before .before .before .grid-box-holds .ensures)) ∙ not-false _ (c .before .before .before .before .if1 .left)) _
-    (sym (rw (toZ-ofZ (s .fits .px), toZ-ofZ (s .fits .py)) at (c .before .before .before .grid-at .ensures)) ∙ c .before .why .given .1)
+    exterior-holds (gridBoxHolds (a .boxes .now) 0 (a .px) (a .py)) (gridTest (a .sizes .now) (a .coords .now) (a .px) (a .py)) (rings (a .sizes .now)) (a .edge)
+    (sym (rw (toZ-ofZ (s .fits .px), toZ-ofZ (s .fits .py)) at (c .before .before .before .before .grid-box-holds .ensures)) ∙ not-false _ (c .before .before .before .if1 .left)) _
+    (ap said (sym (rw (toZ-ofZ (s .fits .px), toZ-ofZ (s .fits .py)) at (c .before .before .grid-at .ensures)) ∙ not-false _ (c .before .if2 .left)))
+    (rw (toZ-ofZ (s .fits .px), toZ-ofZ (s .fits .py)) at (c .grid-holes .ensures))
 
 pub grid-inside-spec : {M : Type 1} → statement M
 grid-inside-spec =
@@ -53,10 +47,6 @@ grid-inside-spec =
     (λ c κs. search needs)
     returns
     grid-at-requires
-    (λ c. search needs)
-    (λ c κs. search needs)
-    (λ c. search needs)
-    (λ c. search needs)
     returns-2
-    returns-3
-    returns-4)
+    (λ c κs. search needs)
+    returns-3)

@@ -6,8 +6,7 @@ use mir.Val.{SFits}
 use mir.Facts.{toZ-ofZ}
 use Rattle.outline_ring.specs.RingIndex.{lent}
 use Rattle.outline_ask.specs.declared.Query.the-variants.{Outside, Float as FloatPlace, Grid as WholePlace}
-use Rattle.outline_ask.proofs.Queries.{grid-mode}
-use Rattle.outline_ask.proofs.Ready.{fits-is, counted, grid-ready, inside-faulty, inside-asked}
+use Rattle.outline_ask.proofs.Ready.{fits-is, counted, inside-faulty, inside-asked}
 use Rattle.outline_ask.proofs.inside.Statement.{statement}
 use Rattle.outline_ask.proofs.inside.Tie as tie
 
@@ -19,8 +18,7 @@ float-inside-requires c κs =
 grid-inside-requires : tie.Need-grid-inside-requires
 grid-inside-requires c κs =
     let a = c .before .before .before .before .before .before .before .before .before .before .before .before .before .args in
-    grid-ready _ (a .outline) (a .sizes .now) (a .coords .now) (sym (c .before .before .before .before .before .before .check-outline-with .ensures) ∙ c .before .before .before .before .enum-told .given .1)
-    (grid-mode (a .outline) (a .p) _ _ (sym (c .before .query2 .given .1) ∙ c .before .before .before .scaled .ensures))
+    counted _ (a .outline) (a .sizes .now) (a .coords .now) (sym (c .before .before .before .before .before .before .check-outline-with .ensures) ∙ c .before .before .before .before .enum-told .given .1)
 
 returns : tie.Need-returns
 returns c =

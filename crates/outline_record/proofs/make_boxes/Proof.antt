@@ -10,7 +10,7 @@ put-record-requires : tie.Need-put-record-requires
 put-record-requires c κs =
     let told = c .before in
     let a = told .before .before .before .before .args in
-    sound-outline true (a .outline .scale) (a .outline .mode) (a .sizes .now) (a .coords .now) (sym (told .before .before .check-outline .ensures) ∙ told .enum-told .given .1) .1 .shaped .counted
+    sound-outline true (a .outline .scale) (a .sizes .now) (a .coords .now) (sym (told .before .before .check-outline .ensures) ∙ told .enum-told .given .1) .1 .shaped .counted
 
 returns : tie.Need-returns
 unfolding boxesMade

@@ -152,10 +152,6 @@ fn refusals_in_the_table() {
         ),
         (with_rings("float", "0", square), "refusal 5: the scale is not a finite number above 0"),
         (with_rings("float", "-2", square), "refusal 5: the scale is not a finite number above 0"),
-        (
-            with_rings("integer", "1000000", "outline 0,0 1073.741824,0 0,4 0,0"),
-            "refusal 6: ring 0 has a coordinate beyond 1,073,741,823, the limit of integer mode",
-        ),
     ];
     for (file, words) in cases {
         assert_eq!(refused(&file, BuildOptions::default(), &[]), format!("zone z: {words}"));

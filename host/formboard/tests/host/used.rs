@@ -50,6 +50,20 @@ fn a_decimal_on_the_line() {
     assert!(!table.contains("as written"));
 }
 
+/// Nanometres on a board that reaches two metres either way from its centre: whole numbers are exact over all of it.
+#[test]
+fn a_board_of_four_metres_in_nanometres() {
+    let board = "zone wide wet\nedge allowed\nmode integer\nscale 1000000\noutline -2000,-2000 2000,-2000 2000,2000 -2000,2000 -2000,-2000\n\
+                 zone slope dry\nedge excluded\nmode integer\nscale 1000000\noutline -2000,-2000 2000,1999.999999 2000,2000 -2000,-2000\n\
+                 splice a 2000,2000\nsplice b 2000.000001,0\nsplice c 1999.999999,1999.999999\nsplice d 0,0\nsplice e 0,0.000001\n";
+    let (status, table, _) = said(&["-"], board);
+    assert_eq!(status, Some(0), "{table}");
+    for (splice, held) in [("a ", "wide "), ("b ", "- "), ("c ", "wide "), ("d ", "wide "), ("e ", "wide ")] {
+        let row = table.lines().find(|line| line.starts_with(splice)).expect("a row");
+        assert!(row.split_whitespace().nth(2) == Some(held.trim()), "{row}");
+    }
+}
+
 #[test]
 fn every_broken_zone_is_told_once() {
     let open = "zone open dry\nedge allowed\nmode float\nscale 1\noutline 0,0 1,0 1,1\n";

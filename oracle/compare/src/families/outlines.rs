@@ -1,6 +1,7 @@
 //! Whole outlines, through the C interface: the record, building, the inside question; broken outlines and
 //! damaged indexes.
 
+use super::segments::wrapped_ring;
 use super::{all_shown, rust_ring, Run};
 use crate::report::{Family, Plan};
 use calls::{answer, bits, count, Said};
@@ -267,7 +268,8 @@ fn rust_each_way(o: &Outline) -> [(&'static str, I32Polygon); 4] {
 /// Both edge rules, both modes, every choice of index on our side and each of the Rust's four on its own: one answer.
 /// So is that of the points alone.
 fn asked(plan: Plan) -> bool {
-    let mut family = Family::new("outlines_asked", &[]);
+    let mut family = Family::new("outlines_asked", &[WRAPS]);
+    wrapping(&mut family);
     each_outline(plan, "outlines_asked", 2000, |random, o| {
         let lent = Lent::of(o);
         let (boxes, mut pools) = all_indexes(&lent, o);
@@ -294,12 +296,44 @@ fn asked(plan: Plan) -> bool {
                     let said = rust_says(&ways[0].1, [x, y], edge);
                     let ours = calls::inside(lent.rings(), &boxes, lent.asked([x, y], edge), &pools.indexes());
                     let question = || format!("{o:?} by {choice:?} at {}, edge {edge}", all_shown(&[x, y]));
-                    family.same(ours, Ok((said, 0)), question);
+                    let wrapped = wrapped(o, [x, y], edge);
+                    let exact = outline::inside(lent.rings(), &boxes, lent.asked([x, y], edge), &pools.indexes());
+                    if lent.integer && exact != Ok(wrapped) {
+                        family.recorded(WRAPS, [ours, Ok((said, 0))], [answer(exact), Ok((wrapped, 0))]);
+                    } else {
+                        family.same(ours, Ok((said, 0)), question);
+                    }
                 }
             }
         }
     });
     family.end()
+}
+
+const WRAPS: &str = "Integer mode with coordinates so large that the Rust's 64 bits do not hold their products";
+
+/// The smallest on record.
+fn wrapping(family: &mut Family) {
+    let ring = rings::wrapping();
+    let p = [ring[1][0], ring[0][1]].map(f64::from);
+    let o = Outline::new(&[ring], 1.0, Mode::Integer);
+    let lent = Lent::of(&o);
+    let (boxes, pools) = all_indexes(&lent, &o);
+    let ours = calls::inside(lent.rings(), &boxes, lent.asked(p, false), &pools.indexes());
+    let theirs = rust_polygon(&o, options(false, false, 0)).0.contains_point(Point { x: p[0], y: p[1] });
+    family.recorded(WRAPS, [ours, Ok((theirs, 0))], [Ok((false, 0)), Ok((true, 0))]);
+}
+
+/// The Rust's Integer mode on 64 bits, which wrap.
+fn wrapped(o: &Outline, p: [f64; 2], edge: bool) -> bool {
+    let place = p.map(|c| (c * o.scale).round() as i64);
+    let rings = o.rings();
+    let [x0, y0, x1, y1] = rust_box(&rings[0]).map(i64::from);
+    p.iter().all(|c| c.is_finite())
+        && (x0..=x1).contains(&place[0])
+        && (y0..=y1).contains(&place[1])
+        && wrapped_ring(&rings[0], place, edge)
+        && !rings[1..].iter().any(|ring| wrapped_ring(ring, place, false))
 }
 
 /// What the four calls say of an outline, and what they leave in rooms of a few numbers.
@@ -310,7 +344,7 @@ fn all_said(lent: &Lent, boxes: &[i32], by_model: bool) -> (Said, Vec<i32>, Said
     let (scale, integer, none) = (lent.scale, lent.integer, Pools::of([0; 6]));
     let asked = lent.asked([5.0, 5.0], true);
     if by_model {
-        let made = count(outline::make(lent.rings(), scale, integer, &mut record));
+        let made = count(outline::make(lent.rings(), scale, &mut record));
         let built = count(outline::build(lent.rings(), wanted, pools.rooms()));
         let inside = answer(outline::inside(lent.rings(), boxes, asked, &none.indexes()));
         let plain = answer(outline::inside_plain(lent.rings(), asked));

@@ -12,7 +12,8 @@ use model::ring::{self as model_ring, Ray, Segment};
 use opened::open::{self, Cast};
 use opened::Point;
 
-pub const FAMILIES: &[Run] = &[("raycast", raycast), ("grid_test", grid_test), ("grid_ring", grid_ring)];
+pub const FAMILIES: &[Run] =
+    &[("raycast", raycast), ("cross_sign", cross_sign), ("grid_test", grid_test), ("grid_ring", grid_ring)];
 
 fn raycast(plan: Plan) -> bool {
     let mut family = Family::new("raycast", &[]);
@@ -43,7 +44,7 @@ fn raycast(plan: Plan) -> bool {
     family.end()
 }
 
-const WRAPS: &str = "a whole place so far away that the Rust's 64 bits do not hold its products";
+const WRAPS: &str = "a segment so long, or a whole place so far away, that the Rust's 64 bits do not hold its products";
 
 /// The Rust's whole-number test on 64 bits, which wrap.
 fn wrapped([[ax, ay], [bx, by]]: Ends, [px, py]: [i64; 2]) -> Ray {
@@ -63,25 +64,53 @@ fn segment([a, b]: Ends) -> Segment {
     Segment { a: (a[0], a[1]), b: (b[0], b[1]) }
 }
 
+/// The sign of the cross, beside the model's in 128 bits: the ends of the range, any i32, and places one unit from the
+/// line on segments as long as the range.
+fn cross_sign(plan: Plan) -> bool {
+    let mut family = Family::new("cross_sign", &[]);
+    let mut ask = |ends: Ends, p: Corner| {
+        let exact = model_ring::cross(segment(ends), p[0].into(), p[1].into()).signum();
+        family.same(ours::cross_sign(ends, p), exact as i32, || format!("{ends:?} and {p:?}"));
+    };
+    for ends in segments::as_long_as_the_range() {
+        segments::near_the_line(ends).into_iter().for_each(|p| ask(ends, p));
+    }
+    for ends in segments::of_grid(4) {
+        whole_places(4).for_each(|p| ask(ends, p.map(|c| c as i32)));
+    }
+    let mut random = Random::new(plan.seed, "cross_sign");
+    for _ in 0..plan.random {
+        let ends = if random.one_in(2) {
+            segments::random(&mut random)
+        } else {
+            [[(); 2]; 2].map(|c| c.map(|()| random.next() as i32))
+        };
+        let p = if random.one_in(2) {
+            *random.pick(&segments::near_the_line(ends))
+        } else {
+            [random.next() as i32, random.next() as i32]
+        };
+        ask(ends, p);
+    }
+    family.end()
+}
+
 /// The Rust tests rings only: two points are a ring of one segment, and both edge rules together tell
-/// what the test says. Where an end is beyond Integer mode's limit, 01's refusal 6.
+/// what the test says.
 fn grid_test(plan: Plan) -> bool {
     let mut family = Family::new("grid_test", &[WRAPS]);
     let mut ask = |ends: Ends, p: [i64; 2]| {
         let ours = ours::grid_test(ends, p);
-        let exact = model_ring::segment_grid(segment(ends), p[0], p[1]);
-        if exact.is_err() {
-            return family.same(ours, exact, || format!("{ends:?} and {p:?}"));
-        }
+        let exact = model_ring::grid(segment(ends), p[0], p[1]);
         let both =
             [false, true].map(|edge| open::ring_test_integer(&rust_ring(&ends), Point { x: p[0], y: p[1] }, edge));
-        let theirs = Ok(match both {
+        let theirs = match both {
             [false, false] => Ray::Neither,
             [true, true] => Ray::Inside,
             [false, true] => Ray::On,
             [true, false] => unreachable!("what is on is not inside with the edge excluded"),
-        });
-        let wraps = Ok(wrapped(ends, p));
+        };
+        let wraps = wrapped(ends, p);
         if exact == wraps {
             family.same(ours, theirs, || format!("{ends:?} and {p:?}"));
         } else {
@@ -99,15 +128,18 @@ fn grid_test(plan: Plan) -> bool {
     }
     let mut random = Random::new(plan.seed, "grid_test");
     for ends in segments::edges() {
-        for held in [ends, segments::in_integer_range(ends)] {
+        for held in [ends, segments::held_unwrapped(ends)] {
             for _ in 0..20 {
                 ask(held, points::random_whole(&mut random, &held));
             }
         }
     }
+    for ends in segments::as_long_as_the_range() {
+        segments::near_the_line(ends).into_iter().for_each(|p| ask(ends, p.map(i64::from)));
+    }
     for _ in 0..plan.random {
         let ends = segments::random(&mut random);
-        let held = if random.one_in(10) { ends } else { segments::in_integer_range(ends) };
+        let held = if random.one_in(2) { ends } else { segments::held_unwrapped(ends) };
         ask(held, points::random_whole(&mut random, &held));
     }
     family.end()
@@ -152,14 +184,15 @@ fn grid_ring(plan: Plan) -> bool {
         }
     }
     for ring in rings::edges() {
-        let ring = rings::in_integer_range(&ring.ring);
-        for _ in 0..8 {
-            ask(&Lent::of(&ring), points::random_whole(&mut random, &ring), random.one_in(2));
+        for ring in [rings::held_unwrapped(&ring.ring), ring.ring] {
+            for _ in 0..8 {
+                ask(&Lent::of(&ring), points::random_whole(&mut random, &ring), random.one_in(2));
+            }
         }
     }
     for _ in 0..plan.random / 40 {
         let any = rings::random(&mut random);
-        let ring = rings::in_integer_range(&any);
+        let ring = rings::held_unwrapped(&any);
         let lent = Lent::of(&ring);
         for _ in 0..4 {
             ask(&lent, points::random_whole(&mut random, &ring), random.one_in(2));
@@ -170,7 +203,7 @@ fn grid_ring(plan: Plan) -> bool {
     family.end()
 }
 
-fn wrapped_ring(ring: &[Corner], p: [i64; 2], edge: bool) -> bool {
+pub fn wrapped_ring(ring: &[Corner], p: [i64; 2], edge: bool) -> bool {
     let mut inside = false;
     for side in ring.windows(2) {
         match wrapped([side[0], side[1]], p) {

@@ -5,10 +5,10 @@ use Rattle.probe.proofs.grids.probe_grid_test.Tie as tie
 
 returns : tie.Need-returns
 returns c =
-    let b = c .before .before .before in
+    let b = c .before in
     let f = b .before .before .fits in
     simp (b .grid-test .ensures, b .before .segment-of .ensures, toZ-ofZ (f .ax), toZ-ofZ (f .ay), toZ-ofZ (f .bx), toZ-ofZ (f .by), toZ-ofZ (f .x), toZ-ofZ (f .y))
-    at (c .put-result .ensures)
+    at (c .number-of .ensures)
 
 pub probe-grid-test-spec : {M : Type 1} → statement M
 probe-grid-test-spec =

@@ -13,14 +13,12 @@ use borrow.Author.Needs.{needs}
 use Rattle.room.specs.Numbers.{upTo}
 use Rattle.rings.specs.RingTest.{testFrom}
 use Rattle.rings.proofs.RingTest.{test-done, test-on, test-flip, test-pass}
-use Rattle.rings.specs.Checks.{allWithin}
-use Rattle.rings.proofs.Checks.{within-at}
 use Rattle.rings.specs.Ring.{segmentAt}
 use Rattle.grid.specs.Grid.{gridResult}
 use Rattle.grid.specs.Rings.{onAt, flipAt}
 use Rattle.grid.proofs.Results.{told-on, told-flips, told-passes}
-use Rattle.grid.proofs.inside.Statement.{statement}
-use Rattle.grid.proofs.inside.Tie as tie
+use Rattle.grid.proofs.grid_in.Statement.{statement}
+use Rattle.grid.proofs.grid_in.Tie as tie
 
 -- the ring test from segment i on
 abbrev rest : List ℤ → ℕ → ℤ → ℤ → Bool → Bool → ℕ → Bool
@@ -37,20 +35,11 @@ abbrev μ-loop : tie.MeasureT-loop
 loop-holds : tie.Need-loop-holds Inv-loop μ-loop
 loop-holds c = (omega arith, refl)
 
-segment-result-requires : tie.Need-segment-result-requires Inv-loop μ-loop
-unfolding allWithin
-segment-result-requires c κs =
-    let b = c .before .before .before in
-    let ring = b .args .coords .now in
-    let i = c .before .before .loop .i in
-    let each = within-at ring in
-    rw (c .segment-at .ensures, each (i * 2) (b .pre .1) (omega arith), each (i * 2 + 1) (b .pre .1) (omega arith), each (i * 2 + 2) (b .pre .1) (omega arith), each (i * 2 + 3) (b .pre .1) (omega arith))
-
 -- what the test said of segment i
-said : (c : tie.After-segment-result Inv-loop μ-loop) → let b = c .before .before .before .before in
-    c .segment-result .result ≡ gridResult (segmentAt (b .args .coords .now) (c .before .before .before .loop .i)) (b .args .px) (b .args .py)
+said : (c : tie.After-grid-test Inv-loop μ-loop) → let b = c .before .before .before .before in
+    c .grid-test .result ≡ gridResult (segmentAt (b .args .coords .now) (c .before .before .before .loop .i)) (b .args .px) (b .args .py)
 said c = let f = c .before .before .before .before .fits in
-    rw (c .before .segment-at .ensures, toZ-ofZ (f .px), toZ-ofZ (f .py)) at (c .segment-result .ensures)
+    rw (c .before .segment-at .ensures, toZ-ofZ (f .px), toZ-ofZ (f .py)) at (c .grid-test .ensures)
 
 -- the invariant at the head of the loop, at the point itself
 whole : (c : tie.At-loop Inv-loop μ-loop) → let a = c .before .args in
@@ -92,15 +81,15 @@ returns-2 c =
     let l = c .before .loop in
     sym (test-done (onAt (a .coords .now) (a .px) (a .py)) (flipAt (a .coords .now) (a .px) (a .py)) (a .edge) (l .answer) (λ j. true) (a .n) (l .i) (c .loop-test .left)) ∙ whole (c .before)
 
-pub inside-spec : {M : Type 1} → statement M
-inside-spec =
+pub grid-in-spec : {M : Type 1} → statement M
+grid-in-spec =
     tie.close
     (tie.spec
     Inv-loop
     μ-loop
     loop-holds
     (λ c κs. search needs)
-    segment-result-requires
+    (λ c κs. search needs)
     (λ c. search needs)
     returns
     (λ c. search needs)

@@ -1,0 +1,5 @@
+pub mod Signs
+pub mod Gaps
+pub mod Told
+pub mod Ends
+pub mod Unique
