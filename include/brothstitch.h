@@ -47,6 +47,9 @@
  *     7  a list at a height that is not finite                         0
  *     8  lent room too small, or over 65,536 stripes called for        0
  *     9  index damaged where it was read                               where
+ *    10  well-known binary ends early, or goes on behind the polygon   byte
+ *    11  well-known binary of another byte order or type               byte
+ *    12  a scaled coordinate not finite, or not in i32 once rounded    ring
  *    15  a number in a packed tree that is longer than it has to be,   its first
  *        or over 64 bits                                               byte
  * 6 is withdrawn: no call gives it, and its number stands for nothing else.
@@ -100,6 +103,9 @@ extern "C" {
 #define BROTHSTITCH_BAD_HEIGHT 7u
 #define BROTHSTITCH_NO_ROOM 8u
 #define BROTHSTITCH_DAMAGED 9u
+#define BROTHSTITCH_ENDS 10u
+#define BROTHSTITCH_UNKNOWN 11u
+#define BROTHSTITCH_UNSTORED 12u
 #define BROTHSTITCH_LOOSE 15u
 
 #define BROTHSTITCH_EDGE_EXCLUDED 0u
@@ -203,6 +209,15 @@ uint32_t brothstitch_build_tree(const int32_t *coords, size_t coords_len, size_t
  * x, greatest y. 0 done; *value: how many rings. */
 uint32_t brothstitch_make(const uint32_t *sizes, size_t sizes_len, const int32_t *coords, size_t coords_len,
                           double scale, uint32_t mode, int32_t *boxes, size_t boxes_len, uint64_t *value);
+
+/* Reads an outline from well-known binary (OGC 06-103r4): one polygon, type 3, of either byte order, and nothing behind it.
+ * Each double is multiplied by scale once and rounded, halves away from zero. The point count of each ring goes to sizes, all
+ * rings' numbers to coords: what brothstitch_make takes, in either mode. 0 done; *value: how many rings; *numbers: how many
+ * numbers coords has, 0 with a refusal. Refusals in the order 5; 10 and 11 as the bytes are read, place the first byte of the
+ * field; then 1, 2, 12 and 4 over the whole shape; and last 8. Only 8 touches sizes and coords, and leaves both zero. */
+uint32_t brothstitch_read_wkb(const uint8_t *bytes, size_t bytes_len, double scale, uint32_t *sizes,
+                              size_t sizes_len, int32_t *coords, size_t coords_len, uint64_t *numbers,
+                              uint64_t *value);
 
 /* Builds the indexes of all rings; options: bit 0 stripes, bit 1 trees. 0 done; *value: how many rings.
  * table gets a row of ten numbers a ring, BROTHSTITCH_ROW_SEGMENTS and so on. A part that the ring has not got starts

@@ -132,10 +132,33 @@ static void outline(void)
     SAYS(brothstitch_inside_plain(LENT(sizes), LENT(H), 0.0, 0, 1.0, 1.0, 0, &value), 105, 0);
 }
 
+/* S in well-known binary, little endian, into rooms with one place to spare; and bytes that end early. */
+static void binary(void)
+{
+    static const uint8_t S[] = {1, 3, 0, 0, 0, 1, 0, 0, 0, 5, 0, 0, 0,
+                                0, 0, 0, 0, 0, 0, 0,    0,    0, 0, 0, 0, 0, 0, 0,    0,
+                                0, 0, 0, 0, 0, 0, 0x24, 0x40, 0, 0, 0, 0, 0, 0, 0,    0,
+                                0, 0, 0, 0, 0, 0, 0x24, 0x40, 0, 0, 0, 0, 0, 0, 0x24, 0x40,
+                                0, 0, 0, 0, 0, 0, 0,    0,    0, 0, 0, 0, 0, 0, 0x24, 0x40,
+                                0, 0, 0, 0, 0, 0, 0,    0,    0, 0, 0, 0, 0, 0, 0,    0};
+    uint32_t sizes[2] = {7, 7};
+    int32_t coords[11] = {0};
+    uint64_t numbers, value;
+
+    SAYS(brothstitch_read_wkb(S, sizeof S - 1, 1.0, LENT(sizes), LENT(coords), &numbers, &value), 110, sizeof S - 8);
+    SAME(sizes, (const uint32_t[]){7, 7});
+    SAYS(brothstitch_read_wkb(LENT(S), 1.0, LENT(sizes), LENT(coords), &numbers, &value), 0, 1);
+    SAME(sizes, (const uint32_t[]){5, 0});
+    SAME(coords, (const int32_t[]){0, 0, 10, 0, 10, 10, 0, 10, 0, 0, 0});
+    SAME(&numbers, &(const uint64_t){10});
+    SAYS(brothstitch_read_wkb(LENT(S), 1.0, NULL, 0, LENT(coords), &numbers, &value), 108, 0);
+}
+
 int main(void)
 {
     one_ring();
     outline();
+    binary();
     if (!wrong) {
         puts("calls.c: every call answers as the sample sheet has it");
     }

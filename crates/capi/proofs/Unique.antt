@@ -11,6 +11,7 @@ use Rattle.capi.proofs.list_stripes.brothstitch_list_stripes
 use Rattle.capi.proofs.list_tree.brothstitch_list_tree
 use Rattle.capi.proofs.make_record.brothstitch_make
 use Rattle.capi.proofs.outlines.outline_of
+use Rattle.capi.proofs.read_wkb.brothstitch_read_wkb
 use Rattle.capi.proofs.ring_grid.brothstitch_ring_grid
 use Rattle.capi.proofs.ring_scan.brothstitch_ring_scan
 use Rattle.capi.proofs.ring_stripes.brothstitch_ring_stripes
@@ -18,6 +19,7 @@ use Rattle.capi.proofs.ring_tree.brothstitch_ring_tree
 use Rattle.capi.proofs.ring_turn.brothstitch_turn
 use Rattle.capi.proofs.told.is_set
 use Rattle.capi.proofs.told.tell_refusal
+use Rattle.capi.proofs.told.tell_wkb_refusal
 use Rattle.capi.proofs.told.tell_answer
 use Rattle.capi.proofs.zeros.zero_fill_f64
 use Rattle.capi.proofs.zeros.zero_fill_u64
@@ -34,6 +36,9 @@ one-brothstitch-inside-plain _ _ _ _ _ _ p q = sym p ∙ q
 
 pub one-brothstitch-build : OneOutcome brothstitch_build.ended brothstitch_build.Reads.Post
 one-brothstitch-build _ _ _ _ _ _ p q = ap (λ o. (o .0 .0, (o .1, (o .2, (o .3, (o .4, (o .5, (o .6, o .0 .1)))))))) (sym p ∙ q)
+
+pub one-brothstitch-read-wkb : OneOutcome brothstitch_read_wkb.ended brothstitch_read_wkb.Reads.Post
+one-brothstitch-read-wkb _ _ _ _ _ _ p q = ap (λ o. (o .0 .0, (o .2, (o .3, (o .1, o .0 .1))))) (sym p ∙ q)
 
 pub one-brothstitch-build-stripes : OneOutcome brothstitch_build_stripes.ended brothstitch_build_stripes.Reads.Post
 one-brothstitch-build-stripes _ _ _ _ _ _ p q = ap (λ o. (o .0 .0, (o .1, (o .2, (o .3, (o .4, o .0 .1)))))) (sym p ∙ q)
@@ -76,6 +81,9 @@ one-is-set _ _ _ _ _ _ p q = p ∙ sym q
 
 pub one-tell-refusal : OneOutcome tell_refusal.ended tell_refusal.Reads.Post
 one-tell-refusal _ _ _ _ _ _ p q = sym p ∙ q
+
+pub one-tell-wkb-refusal : OneOutcome tell_wkb_refusal.ended tell_wkb_refusal.Reads.Post
+one-tell-wkb-refusal _ _ _ _ _ _ p q = sym p ∙ q
 
 pub one-tell-answer : OneOutcome tell_answer.ended tell_answer.Reads.Post
 one-tell-answer _ _ _ _ _ _ p q = sym p ∙ q

@@ -47,6 +47,11 @@ use Rattle.outline_record.specs.Made.{boxesMade}
 use Rattle.outline_ring.specs.RingIndex.{lent}
 use Rattle.outline_ask.specs.Inside.{insideOf}
 use Rattle.outline_agree.specs.Plain.{plainInside}
+use Rattle.wkb_shape.specs.declared.WkbRefusal.{WkbRefusal}
+use Rattle.wkb_shape.specs.declared.WkbRefusal.the-variants.{Ends, Unknown, Unstored, Plain}
+use Rattle.wkb_read.specs.declared.ReadWkb.{ReadWkb}
+use Rattle.wkb_read.specs.declared.ReadWkb.the-variants.{Read, Unread}
+use Rattle.wkb_read.specs.Read.{wkbRead}
 use Rattle.outline_build.specs.Indexes.{indexesBuilt}
 use Rattle.capi.specs.Told.{Told, told, refusalTold, answerTold, isSet, point}
 use Rattle.capi.specs.Lists.{listTold, stripesTold, treeTold}
@@ -55,6 +60,7 @@ use Rattle.capi.specs.Stripes.{Outcome, zeroSpan, spanOf, four, stripedT
 use Rattle.capi.specs.Trees.{packedTold, packedAll}
 use Rattle.capi.specs.Outlines.{modeOf, madeTold}
 use Rattle.capi.specs.Indexes.{optionsOf, indexedTold, indexedAll}
+use Rattle.capi.specs.Wkb.{wkbRefusalTold, readTold}
 use Rattle.capi.proofs.list_scan.brothstitch_list_scan.Reads as list-scan
 use Rattle.capi.proofs.list_stripes.brothstitch_list_stripes.Reads as list-stripes
 use Rattle.capi.proofs.list_tree.brothstitch_list_tree.Reads as list-tree
@@ -69,6 +75,7 @@ use Rattle.capi.proofs.make_record.brothstitch_make.Reads as make
 use Rattle.capi.proofs.build_indexes.brothstitch_build.Reads as build
 use Rattle.capi.proofs.ask_inside.brothstitch_inside.Reads as inside
 use Rattle.capi.proofs.ask_plain.brothstitch_inside_plain.Reads as inside-plain
+use Rattle.capi.proofs.read_wkb.brothstitch_read_wkb.Reads as read-wkb
 
 -- what is returned is not 106
 abbrev Never : Told → Type 0
@@ -108,6 +115,16 @@ packed (TreeRefused why) e = refused why e
 made : (answer : Made) → Never (madeTold answer)
 made (Rings n) e = omega arith
 made (Unmade why) e = refused why e
+
+wkb-refused : (why : WkbRefusal) → Never (wkbRefusalTold why)
+wkb-refused (Ends at) e = omega arith
+wkb-refused (Unknown at) e = omega arith
+wkb-refused (Unstored ring) e = omega arith
+wkb-refused (Plain why) e = never-six why (omega arith)
+
+wkb-told : (answer : ReadWkb) → Never (readTold answer)
+wkb-told (Read rings numbers) e = omega arith
+wkb-told (Unread why) e = wkb-refused why e
 
 indexed : (answer : Built) → Never (indexedTold answer)
 indexed (Indexed n) e = omega arith
@@ -210,3 +227,6 @@ never-inside-plain : (κs : _) (a : _) (z : _) (e : _) → inside-plain.Post κs
 never-inside-plain κs a z e p six =
     answered (plainInside (outlineOf (a .1 .1 .0) (modeOf (a .1 .1 .1 .0))) (a .0 .now) (a .1 .0 .now) (point (a .1 .1 .1 .1 .0) (a .1 .1 .1 .1 .1 .0)) (isSet (a .1 .1 .1 .1 .1 .1 .0)))
     (ap (λ w. w .0) p ∙ six)
+
+never-read-wkb : (κs : _) (a : _) (z : _) (e : _) → read-wkb.Post κs a z e → z ≡ 106 → ⊥
+never-read-wkb κs a z e p six = wkb-told (wkbRead (a .1 .1 .0 .now) (a .1 .1 .1 .0 .now) (a .1 .0) (a .0 .now) .0) (ap (λ w. w .0 .0) p ∙ six)

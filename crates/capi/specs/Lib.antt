@@ -5,3 +5,4 @@ pub mod Stripes
 pub mod Trees
 pub mod Outlines
 pub mod Indexes
+pub mod Wkb

@@ -12,6 +12,7 @@ mod list_stripes;
 mod list_tree;
 mod make_record;
 mod outlines;
+mod read_wkb;
 mod ring_grid;
 mod ring_scan;
 mod ring_stripes;

@@ -48,6 +48,10 @@ extern "C" {
         sizes: *const u32, sizes_len: usize, coords: *const i32, coords_len: usize, scale: f64, mode: u32,
         boxes: *mut i32, boxes_len: usize, value: *mut u64,
     ) -> u32;
+    pub fn brothstitch_read_wkb(
+        bytes: *const u8, bytes_len: usize, scale: f64, sizes: *mut u32, sizes_len: usize,
+        coords: *mut i32, coords_len: usize, numbers: *mut u64, value: *mut u64,
+    ) -> u32;
     pub fn brothstitch_build(
         sizes: *const u32, sizes_len: usize, coords: *const i32, coords_len: usize,
         options: u32, threshold: usize,

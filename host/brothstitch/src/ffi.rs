@@ -166,6 +166,19 @@ pub fn make(rings: LentRings, scale: f64, mode: u32, boxes: &mut [i32]) -> Resul
     })
 }
 
+/// Reads an outline from well-known binary; answers how many rings and how many numbers there are.
+#[rustfmt::skip]
+pub fn read_wkb(bytes: &[u8], scale: f64, sizes: &mut [u32], coords: &mut [i32]) -> Result<(u64, u64), Refusal> {
+    let mut numbers = 0;
+    let told = said(|value| unsafe {
+        c::brothstitch_read_wkb(
+            bytes.as_ptr(), bytes.len(), scale, sizes.as_mut_ptr(), sizes.len(), coords.as_mut_ptr(), coords.len(),
+            &mut numbers, value,
+        )
+    });
+    told.map(|told| (told.value, numbers))
+}
+
 /// The rooms of a build of all rings.
 pub struct IndexRooms<'a> {
     pub table: &'a mut [u64],

@@ -108,6 +108,17 @@ impl Outline {
         Ok(Outline { sizes, coords, scale, mode, boxes, index: Index::default() })
     }
 
+    /// The same from a polygon in well-known binary (OGC 06-103r4), of either byte order; docs/WKB.md has its fields. Each
+    /// coordinate is multiplied by the scale once and rounded to the nearest whole number, halves away from zero.
+    pub fn from_wkb(bytes: &[u8], scale: f64, mode: Mode) -> Result<Outline, Refusal> {
+        // a point takes 16 bytes and has two numbers, so this is never too little
+        let (mut sizes, mut coords) = (vec![0; Outline::MAX_RINGS], vec![0; bytes.len() / 8]);
+        let (rings, numbers) = ffi::read_wkb(bytes, scale, &mut sizes, &mut coords)?;
+        sizes.truncate(rings as usize);
+        coords.truncate(numbers as usize);
+        Outline::from_numbers(sizes, coords, scale, mode)
+    }
+
     /// Builds the indexes that the options ask for, in place of those that were there. Room that proves
     /// too small is doubled and the library asked again. Refusal 8 comes back where no room helps, or where
     /// the lists would pass 2^24 numbers.
@@ -141,7 +152,9 @@ impl Outline {
             work: &mut vec![0; room.work],
         };
         ffi::build(self.lent(), options.bits(), options.min_segments, rooms)?;
-        let used = |column: usize| index.table.chunks_exact(row::NUMBERS).map(|numbers| numbers[column] as usize).sum::<usize>();
+        let used = |column: usize| {
+            index.table.chunks_exact(row::NUMBERS).map(|numbers| numbers[column] as usize).sum::<usize>()
+        };
         let (stripes, list, bytes) = (2 * used(row::STRIPES), used(row::ENTRIES), used(row::BYTES));
         index.stripes.truncate(stripes);
         index.list.truncate(list);

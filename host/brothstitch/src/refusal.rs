@@ -26,6 +26,12 @@ pub enum Refusal {
     /// The index is damaged where it was read: the place in the ring's own list, or among its bytes; 0 also
     /// where there is no stripe, or where a part of the index does not lie wholly in its room.
     Damaged { place: u64 },
+    /// Well-known binary that ends in a field, or goes on behind the polygon: the first byte of that.
+    Ends { byte: u64 },
+    /// Well-known binary of another byte order than 0 or 1, or of another type than a polygon.
+    Unknown { byte: u64 },
+    /// A coordinate of well-known binary that is not a finite number, or not in i32, once it is scaled and rounded.
+    Unstored { ring: u64 },
     /// A number in a tree's bytes is not in its shortest form, or is over 64 bits: the place of its first byte among the ring's own bytes.
     Loose { place: u64 },
 }
@@ -46,6 +52,9 @@ impl Refusal {
             7 => Refusal::BadHeight,
             8 => Refusal::NoRoom,
             9 => Refusal::Damaged { place },
+            10 => Refusal::Ends { byte: place },
+            11 => Refusal::Unknown { byte: place },
+            12 => Refusal::Unstored { ring: place },
             15 => Refusal::Loose { place },
             _ => return None,
         })
@@ -61,6 +70,9 @@ impl Refusal {
             Refusal::BadHeight => 7,
             Refusal::NoRoom => 8,
             Refusal::Damaged { .. } => 9,
+            Refusal::Ends { .. } => 10,
+            Refusal::Unknown { .. } => 11,
+            Refusal::Unstored { .. } => 12,
             Refusal::Loose { .. } => 15,
         }
     }
@@ -69,7 +81,9 @@ impl Refusal {
         match self {
             Refusal::TooManyRings => MOST_RINGS,
             Refusal::TooFew { ring } | Refusal::TooManyPoints { ring } | Refusal::NotClosed { ring } => ring,
+            Refusal::Unstored { ring } => ring,
             Refusal::Damaged { place } | Refusal::Loose { place } => place,
+            Refusal::Ends { byte } | Refusal::Unknown { byte } => byte,
             Refusal::SizesDiffer | Refusal::BadScale | Refusal::BadHeight | Refusal::NoRoom => 0,
         }
     }
@@ -89,6 +103,13 @@ impl fmt::Display for Refusal {
             Refusal::BadHeight => write!(f, "the height is not a finite number"),
             Refusal::NoRoom => write!(f, "the room is too small for what is called for"),
             Refusal::Damaged { place } => write!(f, "the index is damaged at place {place}"),
+            Refusal::Ends { byte } => write!(f, "the binary ends in the field at byte {byte}, or goes on from there"),
+            Refusal::Unknown { byte } => {
+                write!(f, "the binary has a byte order or a type at byte {byte} that is not a polygon's")
+            }
+            Refusal::Unstored { ring } => {
+                write!(f, "ring {ring} has a coordinate that, scaled and rounded, is not a number of 32 bits")
+            }
             Refusal::Loose { place } => write!(f, "the tree's number at byte {place} is not in its shortest form"),
         }
     }
@@ -102,7 +123,7 @@ mod tests {
 
     #[test]
     fn numbers_and_places_come_back() {
-        for number in [1, 2, 3, 4, 5, 7, 8, 9, 15] {
+        for number in [1, 2, 3, 4, 5, 7, 8, 9, 10, 11, 12, 15] {
             for place in [0, 1, 63, 64, 4096] {
                 let refusal = Refusal::of(number, place).expect("a number of the table");
                 assert_eq!(refusal.number(), number);
@@ -112,7 +133,7 @@ mod tests {
             }
         }
         // 6 is withdrawn, and given to nothing else
-        for number in [0, 6, 10, 11, 14, 16, 99, u32::MAX] {
+        for number in [0, 6, 13, 14, 16, 99, u32::MAX] {
             assert_eq!(Refusal::of(number, 0), None);
         }
     }
@@ -130,6 +151,9 @@ mod tests {
             (7, 0, "refusal 7: the height is not a finite number"),
             (8, 0, "refusal 8: the room is too small for what is called for"),
             (9, 41, "refusal 9: the index is damaged at place 41"),
+            (10, 13, "refusal 10: the binary ends in the field at byte 13, or goes on from there"),
+            (11, 1, "refusal 11: the binary has a byte order or a type at byte 1 that is not a polygon's"),
+            (12, 2, "refusal 12: ring 2 has a coordinate that, scaled and rounded, is not a number of 32 bits"),
             (15, 3, "refusal 15: the tree's number at byte 3 is not in its shortest form"),
         ];
         for (number, place, text) in words {

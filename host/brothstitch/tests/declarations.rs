@@ -9,7 +9,7 @@ use std::path::{Path, PathBuf};
 /// Each call's parameters as c.rs has them.
 type Calls = BTreeMap<String, Vec<String>>;
 
-const CALLS: usize = 14;
+const CALLS: usize = 15;
 
 fn repository(name: &str) -> PathBuf {
     Path::new(env!("CARGO_MANIFEST_DIR")).join("../..").join(name)

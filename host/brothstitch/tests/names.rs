@@ -51,6 +51,9 @@ fn numbers_of_the_header() {
         ("BAD_HEIGHT", Refusal::BadHeight),
         ("NO_ROOM", Refusal::NoRoom),
         ("DAMAGED", Refusal::Damaged { place: 0 }),
+        ("ENDS", Refusal::Ends { byte: 0 }),
+        ("UNKNOWN", Refusal::Unknown { byte: 0 }),
+        ("UNSTORED", Refusal::Unstored { ring: 0 }),
         ("LOOSE", Refusal::Loose { place: 0 }),
     ];
     for (name, refusal) in refusals {

@@ -9,4 +9,5 @@ pub mod machine;
 pub mod options;
 pub mod read;
 pub mod table;
+pub mod wkb;
 pub mod written;

@@ -4,11 +4,12 @@ use formboard::check::check;
 use formboard::draw::draw;
 use formboard::machine::{csv, json};
 use formboard::options::{parse, Command, Format, Options, HELP, VERSION};
-use formboard::read::read;
+use formboard::read::read_in;
 use formboard::table::table;
 use std::env;
 use std::fs;
 use std::io::{self, ErrorKind, Read, Write};
+use std::path::Path;
 use std::process::ExitCode;
 
 /// The board's bytes: of a file, or of standard input.
@@ -49,7 +50,8 @@ fn run(options: &Options) -> Result<bool, String> {
     if let Some(drawing) = options.draw.as_ref().filter(|drawing| same_file(drawing, file)) {
         return Err(format!("--draw: {drawing} is the board itself, which is not written over"));
     }
-    let board = read(&bytes_of(file)?).map_err(|error| format!("{file}: {error}"))?;
+    let folder = Path::new(file).parent().unwrap_or(Path::new(""));
+    let board = read_in(&bytes_of(file)?, folder).map_err(|error| format!("{file}: {error}"))?;
     let answers = ask(&board, options.build, &options.damages)?;
     if options.check {
         let found = check(&board, &answers);

@@ -2,10 +2,12 @@
 
 use crate::board::{Board, Kind, Place, Ring, Splice, Zone};
 use crate::decimal::{Decimal, NotStored, MOST_DIGITS};
+use crate::wkb;
 use brothstitch::{Edge, Mode};
 use std::collections::HashMap;
 use std::error::Error;
 use std::fmt;
+use std::path::{Path, PathBuf};
 
 /// Why a file is not a board.
 #[derive(Clone, Debug, PartialEq, Eq)]
@@ -28,7 +30,7 @@ type Read<T> = Result<T, ReadError>;
 
 const MOST_NAME: usize = 20;
 const MOST_TITLE: usize = 60;
-const KEYWORDS: &str = "board, zone, edge, mode, scale, outline, cut-out or splice";
+const KEYWORDS: &str = "board, zone, edge, mode, scale, outline, cut-out, wkb or splice";
 
 /// A line's words, without its comment.
 struct Line<'a> {
@@ -125,6 +127,8 @@ struct Open {
     mode: Option<Mode>,
     scale: Option<Decimal>,
     rings: Vec<Ring>,
+    /// The rings are those of a file, which is all of the zone's outline.
+    from_file: bool,
 }
 
 impl Open {
@@ -143,6 +147,8 @@ struct Reader {
     /// The names of splices, and the lines where they stand.
     used: HashMap<String, usize>,
     open: Option<Open>,
+    /// Where files that the board names are looked up.
+    folder: PathBuf,
 }
 
 impl Reader {
@@ -155,6 +161,7 @@ impl Reader {
             "zone" => self.zone(line),
             "edge" | "mode" | "scale" => self.setting(line, first),
             "outline" | "cut-out" => self.ring(line, first == "outline"),
+            "wkb" => self.wkb(line),
             "splice" => self.splice(line),
             _ if first.starts_with(|c: char| c.is_ascii_digit() || c == '-' || c == '.') => {
                 self.more(line, &line.words)
@@ -189,8 +196,8 @@ impl Reader {
         let Some(kind) = Kind::ALL.into_iter().find(|k| k.word() == kind) else {
             return line.error("a zone's kind: wet, dry or hot", quoted(kind));
         };
-        let rings = Vec::new();
-        self.open = Some(Open { line: line.number, name, kind, edge: None, mode: None, scale: None, rings });
+        let (rings, from_file) = (Vec::new(), false);
+        self.open = Some(Open { line: line.number, name, kind, edge: None, mode: None, scale: None, rings, from_file });
         Ok(())
     }
 
@@ -231,6 +238,9 @@ impl Reader {
         if let Some(word) = missing.first() {
             return line.error(format!("the {word} of zone {} before its rings", open.name), quoted(keyword));
         }
+        if open.from_file {
+            return line.error(format!("no ring for zone {} beside its wkb file", open.name), quoted(keyword));
+        }
         match (outline, open.rings.is_empty()) {
             (true, false) => {
                 return line.error(format!("one outline for zone {}", open.name), "a second outline");
@@ -246,9 +256,29 @@ impl Reader {
         self.more(line, &line.words[1..])
     }
 
+    /// The outline and its cut-outs out of a file of well-known binary.
+    fn wkb(&mut self, line: &Line) -> Read<()> {
+        let Some(open) = self.open.as_mut() else {
+            return line.error("a zone before its wkb", quoted(line.text));
+        };
+        let (Some(scale), Some(mode), []) = (open.scale, open.mode, &open.missing()[..]) else {
+            return line
+                .error(format!("the {} of zone {} before its rings", open.missing()[0], open.name), quoted("wkb"));
+        };
+        if !open.rings.is_empty() {
+            return line.error(format!("one outline for zone {}", open.name), "a second outline");
+        }
+        let name = line.only("a file of well-known binary")?;
+        open.rings = wkb::rings_of(&self.folder, name, scale, mode, line.number)
+            .or_else(|found| line.error("a file with a polygon in well-known binary", found))?;
+        open.from_file = true;
+        Ok(())
+    }
+
     /// Places of the ring that was begun.
     fn more(&mut self, line: &Line, words: &[&str]) -> Read<()> {
-        let begun = self.open.as_mut().and_then(|open| Some((open.scale?, open.rings.last_mut()?)));
+        let own = self.open.as_mut().filter(|open| !open.from_file);
+        let begun = own.and_then(|open| Some((open.scale?, open.rings.last_mut()?)));
         let Some((scale, ring)) = begun else {
             return line
                 .error(format!("{KEYWORDS} (no ring is begun that a place could go on with)"), quoted(words[0]));
@@ -279,7 +309,7 @@ impl Reader {
         let Some(open) = self.open.take() else {
             return Ok(());
         };
-        let Open { line: begun, name, kind, edge: Some(edge), mode: Some(mode), scale: Some(scale), rings } = open
+        let Open { line: begun, name, kind, edge: Some(edge), mode: Some(mode), scale: Some(scale), rings, .. } = open
         else {
             let expected = format!("{} and outline of zone {}", open.missing().join(", "), open.name);
             return Err(ReadError { line, expected, found: found.to_string() });
@@ -296,10 +326,15 @@ impl Reader {
 /// What some editors put before a text in UTF-8.
 const BYTE_ORDER_MARK: &[u8] = b"\xEF\xBB\xBF";
 
-/// Reads a board from a file's bytes.
+/// Reads a board from a file's bytes; files that it names are looked up where the program runs.
 pub fn read(bytes: &[u8]) -> Read<Board> {
+    read_in(bytes, Path::new(""))
+}
+
+/// The same with a folder for the files that it names.
+pub fn read_in(bytes: &[u8], folder: &Path) -> Read<Board> {
     let bytes = bytes.strip_prefix(BYTE_ORDER_MARK).unwrap_or(bytes);
-    let mut reader = Reader::default();
+    let mut reader = Reader { folder: folder.to_path_buf(), ..Reader::default() };
     let mut last = 0;
     for (k, bytes) in bytes.split(|&b| b == b'\n').enumerate() {
         last = k + 1;

@@ -7,7 +7,7 @@ use crate::lent::Fault;
 use crate::tally::Tally;
 use cases::lent::{self, Lent};
 use cases::outlines::{self, Mode, Outline};
-use cases::{points, rings, Random};
+use cases::{points, rings, wkb, Random};
 use model::{outline, ring, stripes, tree};
 
 /// Up to so many points every length of a room is tried.
@@ -97,6 +97,9 @@ impl Fixed {
         make_and_build(random, &rings, refused, tally)?;
         if random.one_in(10) && !refused && rings.coords.len() <= 2 * SMALL {
             outline_rooms(random, &rings, tally)?;
+        }
+        for _ in 0..6 {
+            read_wkb(random, tally)?;
         }
         inside(random, &outline, &rings, refused, tally)
     }
@@ -293,4 +296,23 @@ fn inside(random: &mut Random, o: &Outline, rings: &Rings, refused: bool, tally:
         tally.ask(&InsidePlain { rings, asked })?;
     }
     Ok(())
+}
+
+/// Well-known binary, good, damaged and random, in rooms of every length.
+fn read_wkb(random: &mut Random, tally: &mut Tally) -> Result<(), Fault> {
+    let shape = wkb::shape(random);
+    let big = random.one_in(2);
+    let good = wkb::written(&shape, big);
+    let bytes = match random.below(6) {
+        0 => wkb::junk(random),
+        1 | 2 => wkb::damaged(random, &good),
+        _ => good,
+    };
+    let numbers = 2 * shape.iter().map(Vec::len).sum::<usize>();
+    let (mut sizes, mut coords) = (shape.len() + random.below(3), numbers + random.below(3));
+    if random.one_in(8) {
+        (sizes, coords) = (random.below(sizes + 1), random.below(coords + 1));
+    }
+    let scale = if random.one_in(8) { float(random) } else { 1.0 };
+    tally.ask(&ReadWkb { bytes, scale, sizes: room(random, sizes), coords: room(random, coords) })
 }

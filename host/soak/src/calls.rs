@@ -5,7 +5,7 @@ use crate::lent::{Content, Slices};
 use brothstitch::c;
 use cases::lent::Lent;
 use model::outline::{self, Indexes, Options, Rooms};
-use model::{ring, stripes, tree, Answer, Count, No};
+use model::{ring, stripes, tree, wkb, Answer, Count, No};
 use std::fmt::Debug;
 
 /// What a call returns, and the content of its rooms; the value is the last of them.
@@ -495,6 +495,41 @@ impl Call for Build<'_> {
         };
         let (code, value) = count(outline::build(self.rings.lent(), options, rooms));
         (code, rooms![value, table, spans, stripes, list, bytes, work])
+    }
+}
+
+#[derive(Debug)]
+pub struct ReadWkb {
+    pub bytes: Vec<u8>,
+    pub scale: f64,
+    pub sizes: Vec<u32>,
+    pub coords: Vec<i32>,
+}
+
+impl Call for ReadWkb {
+    const NAME: &'static str = "read_wkb";
+    const ANSWERS: &'static [u32] = &[0, 101, 102, 104, 105, 108, 110, 111, 112];
+
+    #[rustfmt::skip]
+    fn ours(&self, s: &mut Slices) -> u32 {
+        let bytes = s.read("bytes", &self.bytes);
+        let sizes = s.room("sizes", &self.sizes);
+        let coords = s.room("coords", &self.coords);
+        let numbers = s.room("numbers", &[u64::MAX]);
+        let value = s.value();
+        unsafe {
+            c::brothstitch_read_wkb(
+                bytes.ptr, bytes.len, self.scale, sizes.ptr, sizes.len, coords.ptr, coords.len, numbers.ptr, value,
+            )
+        }
+    }
+
+    fn model(&self) -> Outcome {
+        let (mut sizes, mut coords) = (self.sizes.clone(), self.coords.clone());
+        let read = wkb::read(&self.bytes, self.scale, &mut sizes, &mut coords);
+        let numbers = [read.map_or(0, |(_, numbers)| numbers)];
+        let (code, value) = count(read.map(|(rings, _)| rings));
+        (code, rooms![value, sizes, coords, numbers])
     }
 }
 

@@ -8,7 +8,7 @@ use std::fmt::Write;
 const SAID: usize = 3;
 
 /// The refusals that a call of the C interface can give.
-pub const REFUSALS: [u32; 9] = [1, 2, 3, 4, 5, 7, 8, 9, 15];
+pub const REFUSALS: [u32; 12] = [1, 2, 3, 4, 5, 7, 8, 9, 10, 11, 12, 15];
 
 /// What is said, and the refusals.
 const COLUMNS: usize = SAID + REFUSALS.len();
@@ -51,6 +51,7 @@ impl Tally {
             row::<calls::BuildTree>(),
             row::<calls::Make>(),
             row::<calls::Build>(),
+            row::<calls::ReadWkb>(),
             row::<calls::Inside>(),
             row::<calls::InsidePlain>(),
         ];

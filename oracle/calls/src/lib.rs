@@ -49,6 +49,10 @@ mod c {
             sizes: *const u32, sizes_len: usize, coords: *const i32, coords_len: usize, scale: f64, mode: u32,
             boxes: *mut i32, boxes_len: usize, value: *mut u64,
         ) -> u32;
+        pub fn brothstitch_read_wkb(
+            bytes: *const u8, bytes_len: usize, scale: f64, sizes: *mut u32, sizes_len: usize, coords: *mut i32,
+            coords_len: usize, numbers: *mut u64, value: *mut u64,
+        ) -> u32;
         pub fn brothstitch_build(
             sizes: *const u32, sizes_len: usize, coords: *const i32, coords_len: usize, options: u32, threshold: usize,
             table: *mut u64, table_len: usize, spans: *mut f64, spans_len: usize, stripes: *mut u32, stripes_len: usize,
@@ -219,6 +223,19 @@ pub fn build(Rings { sizes, coords }: Rings, options: u32, threshold: usize, roo
             list.len(), bytes.as_mut_ptr(), bytes.len(), work.as_mut_ptr(), work.len(), value,
         )
     })
+}
+
+/// Reads an outline; the numbers that it tells of come behind what it says.
+#[rustfmt::skip]
+pub fn read_wkb(bytes: &[u8], scale: f64, sizes: &mut [u32], coords: &mut [i32]) -> (Said, u64) {
+    let mut numbers = u64::MAX;
+    let told = said(|value| unsafe {
+        c::brothstitch_read_wkb(
+            bytes.as_ptr(), bytes.len(), scale, sizes.as_mut_ptr(), sizes.len(), coords.as_mut_ptr(), coords.len(),
+            &mut numbers, value,
+        )
+    });
+    (told, numbers)
 }
 
 /// The bits of the options: 1 for stripes, 2 for trees.

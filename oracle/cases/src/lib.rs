@@ -18,6 +18,7 @@ pub mod random;
 pub mod rings;
 pub mod segments;
 pub mod varints;
+pub mod wkb;
 
 pub use random::Random;
 

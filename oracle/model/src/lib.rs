@@ -7,6 +7,7 @@ pub mod ring;
 pub mod stripes;
 pub mod tree;
 pub mod varint;
+pub mod wkb;
 
 /// A refusal's number and place.
 pub type No = (u32, u64);

@@ -1,10 +1,10 @@
 //! Files that are no boards, outlines that are refused, command lines that are wrong.
 
-use crate::{formboard, text};
+use crate::{file, formboard, text};
 use brothstitch::BuildOptions;
 use formboard::ask::{ask, Damage, Part, Room};
 use formboard::draw::draw;
-use formboard::read::read;
+use formboard::read::{read, read_in};
 use formboard::table::table;
 use std::env;
 use std::fs;
@@ -27,7 +27,7 @@ fn lines_that_cannot_be_read() {
         ("# nothing\n\n", "line 3: expected at least one zone, found the end of the file"),
         (
             "zoom z wet",
-            "line 1: expected board, zone, edge, mode, scale, outline, cut-out or splice, or a place that goes on with a \
+            "line 1: expected board, zone, edge, mode, scale, outline, cut-out, wkb or splice, or a place that goes on with a \
              ring, found \"zoom\"",
         ),
         ("\nboard", "line 2: expected the board's title, found the end of the line"),
@@ -52,7 +52,7 @@ fn lines_that_cannot_be_read() {
         ("zone z wet\nedge allowed\noutline 0,0", "line 3: expected the mode of zone z before its rings, found \"outline\""),
         ("zone z wet\nsplice s 0,0", "line 2: expected edge, mode, scale and outline of zone z, found \"splice\""),
         ("zone z wet\nedge allowed\n", "line 3: expected mode, scale and outline of zone z, found the end of the file"),
-        ("0,0 1,1", "line 1: expected board, zone, edge, mode, scale, outline, cut-out or splice (no ring is begun that a \
+        ("0,0 1,1", "line 1: expected board, zone, edge, mode, scale, outline, cut-out, wkb or splice (no ring is begun that a \
                      place could go on with), found \"0,0\""),
         ("splice s", "line 1: expected its place X,Y, found the end of the line"),
         ("splice s 5", &format!("line 1: expected {place}, found \"5\"")),
@@ -97,6 +97,38 @@ fn rings_that_cannot_be_read() {
         problem(long.as_bytes()),
         format!("line 1: expected a place X,Y in millimetres, found \"{}..\"", "9".repeat(40))
     );
+}
+
+/// A wkb file stands in place of the outline and its cut-outs: no ring is added to it, and no place to its last ring.
+#[test]
+fn nothing_is_added_to_a_wkb_file() {
+    let folder = env::temp_dir().join(format!("formboard-wkb-{}", std::process::id()));
+    fs::create_dir_all(&folder).expect("a folder");
+    let files = file("oracle/geos/polygons.txt");
+    let square =
+        files.lines().find(|line| line.starts_with("S, little")).and_then(|line| line.rsplit('|').next()).expect("S");
+    fs::write(folder.join("s.wkb"), square.trim()).expect("the file is written");
+    let told =
+        |rest: &str| read_in(format!("{ZONE}wkb s.wkb\n{rest}").as_bytes(), &folder).map_err(|error| error.to_string());
+    let board = told("splice s 3,1\n").expect("the file alone is an outline");
+    let begun = "board, zone, edge, mode, scale, outline, cut-out, wkb or splice (no ring is begun that a place could go on with)";
+    let cases = [
+        (
+            "cut-out 1,1 2,1 1,1",
+            "line 6: expected no ring for zone z beside its wkb file, found \"cut-out\"".to_string(),
+        ),
+        (
+            "outline 0,0 4,0 4,4 0,0",
+            "line 6: expected no ring for zone z beside its wkb file, found \"outline\"".to_string(),
+        ),
+        ("0,0 1,1", format!("line 6: expected {begun}, found \"0,0\"")),
+        ("wkb s.wkb", "line 6: expected one outline for zone z, found a second outline".to_string()),
+    ];
+    for (rest, said) in cases {
+        assert_eq!(told(rest), Err(said), "{rest}");
+    }
+    fs::remove_dir_all(&folder).expect("the folder is removed");
+    assert_eq!(board.zones[0].rings[0].stored, [(0, 0), (100, 0), (100, 100), (0, 100), (0, 0)]);
 }
 
 /// What some editors put before a text is no part of it.

@@ -3,6 +3,7 @@
 mod boards;
 mod errors;
 mod used;
+mod wkb;
 
 use std::fs;
 use std::io::Write;

@@ -8,6 +8,7 @@ mod segments;
 mod stripes;
 mod trees;
 mod varints;
+mod wkb;
 
 use crate::report::Plan;
 use cases::rings::Corner;
@@ -25,6 +26,7 @@ pub const ALL: &[&[Run]] = &[
     stripes::FAMILIES,
     trees::FAMILIES,
     outlines::FAMILIES,
+    wkb::FAMILIES,
 ];
 
 /// The bits; no bits for a NaN, which is one value whatever its bits.

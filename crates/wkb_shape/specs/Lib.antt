@@ -1,0 +1,4 @@
+pub mod Refusals
+pub mod Wkb
+pub mod Written
+pub mod Inner
