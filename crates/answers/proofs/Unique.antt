@@ -1,19 +1,23 @@
 -- Whatever is given, any two outcomes that meet the promise of a public function here are equal. Assumes nothing.
 use mathlib.Core.Path.{sym, ◌∙◌}
 use Rattle.outcome.specs.OneOutcome.{OneOutcome}
-use Rattle.answers.proofs.Refusal.number
-use Rattle.answers.proofs.Refusal.place
-use Rattle.answers.proofs.Refusal.zeroes_rooms
-use Rattle.answers.proofs.Answer.of
+use Rattle.answers.specs.contracts.Refusal.number
+use Rattle.answers.proofs.Refusal.number.Reads as number_reads
+use Rattle.answers.specs.contracts.Refusal.place
+use Rattle.answers.proofs.Refusal.place.Reads as place_reads
+use Rattle.answers.specs.contracts.Refusal.zeroes_rooms
+use Rattle.answers.proofs.Refusal.zeroes_rooms.Reads as zeroes_rooms_reads
+use Rattle.answers.specs.contracts.Answer.of
+use Rattle.answers.proofs.Answer.of.Reads as of_reads
 
-pub one_number : OneOutcome number.ended number.Reads.Post
+pub one_number : OneOutcome number.ended number_reads.Post
 one_number _ _ _ _ _ _ p q = p ∙ sym q
 
-pub one_place : OneOutcome place.ended place.Reads.Post
+pub one_place : OneOutcome place.ended place_reads.Post
 one_place _ _ _ _ _ _ p q = p ∙ sym q
 
-pub one_zeroes_rooms : OneOutcome zeroes_rooms.ended zeroes_rooms.Reads.Post
+pub one_zeroes_rooms : OneOutcome zeroes_rooms.ended zeroes_rooms_reads.Post
 one_zeroes_rooms _ _ _ _ _ _ p q = p ∙ sym q
 
-pub one_of : OneOutcome of.ended of.Reads.Post
+pub one_of : OneOutcome of.ended of_reads.Post
 one_of _ _ _ _ _ _ p q = p ∙ sym q

@@ -1,5 +1,7 @@
 // What a call says when it says no: document 01's numbered refusals, each with its place. Every promise
 // is an equality with a definition of specs/, so that each call has one answer.
+#![tactic(auto)]
+
 ghost use Rattle.std.specs.Prelude.{◌≡◌};
 ghost use Rattle.answers.specs.Answers.{said};
 ghost use Rattle.answers.specs.Refusals.{number_of, place_of, zeroes_rooms};

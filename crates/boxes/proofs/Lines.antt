@@ -11,14 +11,14 @@ use Rattle.floats.proofs.Values.{lesser_le, le_greater, between, between_back}
 use Rattle.boxes.specs.declared.Rect.{Rect}
 use Rattle.boxes.specs.Boxes.{meets}
 use Rattle.boxes.specs.Quads.{box}
-use Rattle.boxes.proofs.Quads.{Lies, not-below}
+use Rattle.boxes.proofs.Quads.{Lies, not_below_lem}
 
 -- the line at the height y, as wide as the box b
 abbrev pub height_line : Rect → Float → Rect
 height_line b y = box b.min.x y b.max.x y
 
-not-above : (x y : Float) → T (le x y) → lt y x ≡ false
-not-above x y h = go (lt y x) refl
+not_above : (x y : Float) → T (le x y) → lt y x ≡ false
+not_above x y h = go (lt y x) refl
   where
     go : (t : Bool) → lt y x ≡ t → t ≡ false
     go true e = absurd (lt_not_le y x (subst T (sym e) tt) h)
@@ -28,7 +28,7 @@ not-above x y h = go (lt y x) refl
 pub meets_line : (c b : Rect) (y : Float) → T (le c.min.x b.max.x) → T (le b.min.x c.max.x) → is_nan c.min.y ≡ false → is_nan c.max.y ≡ false → is_nan y ≡ false
     → meets c (height_line b y) ≡ (le c.min.y y && le y c.max.y)
 meets_line c b y i j m n o =
-    rw (not-above c.min.x b.max.x i, not-above b.min.x c.max.x j, and-true (not (lt y c.min.y || lt c.max.y y)), ← not-below y c.min.y o m, ← not-below c.max.y y n o)
+    rw (not_above c.min.x b.max.x i, not_above b.min.x c.max.x j, and-true (not (lt y c.min.y || lt c.max.y y)), ← not_below_lem y c.min.y o m, ← not_below_lem c.max.y y n o)
     (apart (lt y c.min.y) (lt c.max.y y))
   where
     apart : (s t : Bool) → not (s || t) ≡ (not s && not t)
@@ -43,8 +43,8 @@ module _ (r b : Rect) (l : Lies r b) (w : T (le r.min.x r.max.x)) where
       (le_right b.min.y r.min.y l.south) (le_left r.max.y b.max.y l.north) o
 
   -- and any box that it lies in
-  pub around-meets : (c : Rect) → Lies r c → (y : Float) → T (le r.min.y y) → T (le y r.max.y) → meets c (height_line b y) ≡ true
-  around-meets c k y s n =
+  pub around_meets : (c : Rect) → Lies r c → (y : Float) → T (le r.min.y y) → T (le y r.max.y) → meets c (height_line b y) ≡ true
+  around_meets c k y s n =
       let low = le_trans c.min.y r.min.y y k.south s in
       let high = le_trans y r.max.y c.max.y n k.north in
       meets_line c b y (le_trans c.min.x r.min.x b.max.x k.west (le_trans r.min.x r.max.x b.max.x w l.east))

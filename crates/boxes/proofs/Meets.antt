@@ -9,7 +9,7 @@ use Rattle.floats.proofs.Order.{le_trans, le_refl, le_total, lt_not_le, le_left,
 use Rattle.boxes.specs.declared.Point.{Point}
 use Rattle.boxes.specs.declared.Rect.{Rect}
 use Rattle.boxes.specs.Boxes.{holds, meets}
-use Rattle.boxes.proofs.Quads.{not-below}
+use Rattle.boxes.proofs.Quads.{not_below_lem}
 
 -- A box with no NaN, its least corner at most its greatest. A comparison with a NaN is false, so the two comparisons say both.
 abbrev pub Ordered : Rect → Type 0
@@ -19,10 +19,10 @@ Ordered b = T (le b.min.x b.max.x) × T (le b.min.y b.max.y)
 abbrev pub Share : Rect → Rect → Type 0
 Share b c = (p : Point) × T (holds b p) × T (holds c p)
 
-not-or : (s t : Bool) → T (not (s || t)) → (s ≡ false) × (t ≡ false)
-not-or false false h = (refl, refl)
-not-or true t h = absurd h
-not-or false true h = absurd h
+not_or : (s t : Bool) → T (not (s || t)) → (s ≡ false) × (t ≡ false)
+not_or false false h = (refl, refl)
+not_or true t h = absurd h
+not_or false true h = absurd h
 
 neither : (s t : Bool) → s ≡ false → t ≡ false → T (not (s || t))
 neither s t p q = rw (p, q) tt
@@ -32,7 +32,7 @@ module _ (a b c d : Float) where
   -- ranges of which neither lies strictly above the other have a number in common
   common : T (le a b) → T (le c d) → lt d a ≡ false → lt b c ≡ false → (t : Float) × T (le a t && le t b) × T (le c t && le t d)
   common p q above below = elim (le_total a c left right) [
-    | inl h ↦ (c, and_i (le a c) (le c b) h c-b, and_i (le c c) (le c d) (le_refl c right) q)
+    | inl h ↦ (c, and_i (le a c) (le c b) h c_b, and_i (le c c) (le c d) (le_refl c right) q)
     | inr h ↦ (a, and_i (le a a) (le a b) (le_refl a left) p, and_i (le c a) (le a d) h a_d)
   ]
     where
@@ -43,10 +43,10 @@ module _ (a b c d : Float) where
       right = le_left c d q
 
       a_d : T (le a d)
-      a_d = subst T (ap not (sym above) ∙ not-below d a (le_right c d q) left) tt
+      a_d = subst T (ap not (sym above) ∙ not_below_lem d a (le_right c d q) left) tt
 
-      c-b : T (le c b)
-      c-b = subst T (ap not (sym below) ∙ not-below b c (le_right a b p) right) tt
+      c_b : T (le c b)
+      c_b = subst T (ap not (sym below) ∙ not_below_lem b c (le_right a b p) right) tt
 
 -- a number of both holds them together
 not_apart : (a d t : Float) → T (le a t) → T (le t d) → lt d a ≡ false
@@ -78,8 +78,8 @@ module _ (b : Rect) (p : Point) where
 module _ (b c : Rect) where
   pub meets_shared : Ordered b → Ordered c → T (meets b c) → Share b c
   meets_shared p q m =
-      let y = not-or _ _ (and_l (not (lt c.max.y b.min.y || lt b.max.y c.min.y)) (not (lt c.max.x b.min.x || lt b.max.x c.min.x)) m) in
-      let x = not-or _ _ (and_r (not (lt c.max.y b.min.y || lt b.max.y c.min.y)) (not (lt c.max.x b.min.x || lt b.max.x c.min.x)) m) in
+      let y = not_or _ _ (and_l (not (lt c.max.y b.min.y || lt b.max.y c.min.y)) (not (lt c.max.x b.min.x || lt b.max.x c.min.x)) m) in
+      let x = not_or _ _ (and_r (not (lt c.max.y b.min.y || lt b.max.y c.min.y)) (not (lt c.max.x b.min.x || lt b.max.x c.min.x)) m) in
       let u = common b.min.x b.max.x c.min.x c.max.x p.0 q.0 x.0 x.1 in
       let v = common b.min.y b.max.y c.min.y c.max.y p.1 q.1 y.0 y.1 in
       let t : Point = record { x = u.0; y = v.0 } in

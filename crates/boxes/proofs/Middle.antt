@@ -62,13 +62,13 @@ module _ (σ s : Bool) (m i : ℕ) (I : i ≤ 1) where
       parted j l = rw (pow-add 2 j l, pow-add 2 i j) (regroup m (2 ^ i) (2 ^ j) (2 ^ l))
 
 -- ---- (x + x) / 2 is x
-same-value : (x y : Float) (s : Bool) (a c : ℕ) → 0 < c → HasValue x s a c → HasValue y s a c → T (eq x y)
+same_value : (x y : Float) (s : Bool) (a c : ℕ) → 0 < c → HasValue x s a c → HasValue y s a c → T (eq x y)
 unfolding eq
-same-value nan y s a c C p q = absurd p
-same-value (inf r) y s a c C p q = absurd p
-same-value (fin r m e) nan s a c C p q = absurd q
-same-value (fin r m e) (inf u) s a c C p q = absurd q
-same-value (fin r m e) (fin u n d) s a c C p q =
+same_value nan y s a c C p q = absurd p
+same_value (inf r) y s a c C p q = absurd p
+same_value (fin r m e) nan s a c C p q = absurd q
+same_value (fin r m e) (inf u) s a c C p q = absurd q
+same_value (fin r m e) (fin u n d) s a c C p q =
     rw (p.0, q.0) (level-self s (m * up e * down d) (n * up d * down e) (eq_of_mul-eq-mul_right c C (m * up e * down d) (n * up d * down e) (crossed (m * up e) (down e) (n * up d) (down d) p.1 q.1)))
   where
     crossed : (x e y d : ℕ) → x * c ≡ a * e → y * c ≡ a * d → x * d * c ≡ y * e * c
@@ -116,7 +116,7 @@ self nan c = absurd c.1
 self (inf s) c = absurd c.1
 self (fin s m e) c =
     rw (two, doubled s m e, halved (round binary64 s (m * up e * 2) (down e)) s (m * up e) (down e) (down_pos e) (exact s m 1 e (omega arith) c.0 c.1))
-    (same-value (fin s m e) (round binary64 s (m * up e) (down e)) s (m * up e) (down e) (down_pos e) (refl, refl)
+    (same_value (fin s m e) (round binary64 s (m * up e) (down e)) s (m * up e) (down e) (down_pos e) (refl, refl)
     (rw (mul-one (m * up e)) at (exact s m 0 e (omega arith) c.0 c.1)))
 
 -- ---- sums keep the order in each part
@@ -162,36 +162,36 @@ add_flip (fin s m e) (fin t n d) =
     sum_comm s t (m * up e * down d) (n * up d * down e) (down e * down d)
     ∙ ap (sum binary64 t (n * up d * down e) s (m * up e * down d)) (mul_comm (down e) (down d))
 
-not-not : (s : Bool) → not (not s) ≡ s
-not-not true = refl
-not-not false = refl
+not_not : (s : Bool) → not (not s) ≡ s
+not_not true = refl
+not_not false = refl
 
-finite-neg : (z : Float) → Coordinate z → T (finite (neg z))
+finite_neg : (z : Float) → Coordinate z → T (finite (neg z))
 unfolding neg
-finite-neg nan c = absurd c.1
-finite-neg (inf s) c = absurd c.1
-finite-neg (fin s m e) c = tt
+finite_neg nan c = absurd c.1
+finite_neg (inf s) c = absurd c.1
+finite_neg (fin s m e) c = tt
 
 minus_minus : (x y : Float) → sub binary64 x (neg y) ≡ add binary64 x y
 unfolding sub neg
 minus_minus x nan = refl
-minus_minus x (inf s) = ap (λ (t : Bool). add binary64 x (inf t)) (not-not s)
-minus_minus x (fin s m e) = ap (λ (t : Bool). add binary64 x (fin t m e)) (not-not s)
+minus_minus x (inf s) = ap (λ (t : Bool). add binary64 x (inf t)) (not_not s)
+minus_minus x (fin s m e) = ap (λ (t : Bool). add binary64 x (fin t m e)) (not_not s)
 
 middle_keeps : (x y z : Float) → Coordinate z → T (le x y) → T (le (middle x z) (middle y z))
 middle_keeps x y z c h =
     rw two
     (div_keeps binary64 (add binary64 x z) (add binary64 y z) (fin false 1 (pos 1)) tt
-    (rw (minus_minus x z, minus_minus y z) at (sub_keeps binary64 x y (neg z) (finite-neg z c) h)))
+    (rw (minus_minus x z, minus_minus y z) at (sub_keeps binary64 x y (neg z) (finite_neg z c) h)))
 
 module _ (x y : Float) (p : Coordinate x) (q : Coordinate y) (h : T (le x y)) where
-  pub middle-above : T (le x (middle x y))
-  middle-above =
+  pub middle_above : T (le x (middle x y))
+  middle_above =
       le-le x (middle x x) (middle x y) (eq_le x (middle x x) (self x p))
       (subst (λ (v : Float). T (le (middle x x) v)) (ap (λ (v : Float). div binary64 v (of_bits binary64 0x4000_0000_0000_0000)) (add_flip y x)) (middle_keeps x y x p h))
 
-  pub middle-below : T (le (middle x y) y)
-  middle-below = le-le (middle x y) (middle y y) y (middle_keeps x y y q h) (eq_le (middle y y) y (eq_sym y (middle y y) (self y q)))
+  pub middle_below : T (le (middle x y) y)
+  middle_below = le-le (middle x y) (middle y y) y (middle_keeps x y y q h) (eq_le (middle y y) y (eq_sym y (middle y y) (self y q)))
 
 -- ---- a box whose lowest corner is not above or right of its highest
 pub record Proper (b : Rect) : Type 0 where
@@ -202,16 +202,16 @@ pub quad_proper : (b : Rect) → Placed b → Proper b → (q : ℕ) → Proper 
 quad_proper b p o q = go q
   where
     west : T (le b.min.x (mid_x b))
-    west = middle-above b.min.x b.max.x p.left p.right o.across
+    west = middle_above b.min.x b.max.x p.left p.right o.across
 
     east : T (le (mid_x b) b.max.x)
-    east = middle-below b.min.x b.max.x p.left p.right o.across
+    east = middle_below b.min.x b.max.x p.left p.right o.across
 
     south : T (le b.min.y (mid_y b))
-    south = middle-above b.min.y b.max.y p.low p.high o.along
+    south = middle_above b.min.y b.max.y p.low p.high o.along
 
     north : T (le (mid_y b) b.max.y)
-    north = middle-below b.min.y b.max.y p.low p.high o.along
+    north = middle_below b.min.y b.max.y p.low p.high o.along
 
     go : (q : ℕ) → Proper (quad_bounds b q)
     go zero = record { across = west; along = north }

@@ -13,15 +13,15 @@ use Rattle.boxes.specs.Quads.{mid_x, mid_y, quadrant, chosen, chosen_of_numbers,
 use Rattle.boxes.proofs.Sizes.{Coordinate, coordinate_number, middle_coordinate}
 
 -- ---- the two readings
-pub not-below : (x y : Float) → is_nan x ≡ false → is_nan y ≡ false → not (lt x y) ≡ le y x
-not-below x y p q = ap not (lt_is_not_le x y p q) ∙ twice (le y x)
+pub not_below_lem : (x y : Float) → is_nan x ≡ false → is_nan y ≡ false → not (lt x y) ≡ le y x
+not_below_lem x y p q = ap not (lt_is_not_le x y p q) ∙ twice (le y x)
   where
     twice : (b : Bool) → not (not b) ≡ b
     twice true = refl
     twice false = refl
 
 pub as_written : (b r : Rect) → is_nan (mid_x b) ≡ false → is_nan (mid_y b) ≡ false → is_nan r.min.x ≡ false → is_nan r.min.y ≡ false → chosen b r ≡ chosen_of_numbers b r
-as_written b r p q u v = rw (not-below r.min.x (mid_x b) u p, not-below r.min.y (mid_y b) v q)
+as_written b r p q u v = rw (not_below_lem r.min.x (mid_x b) u p, not_below_lem r.min.y (mid_y b) v q)
 
 -- ---- a box lies in another
 pub record Lies (r b : Rect) : Type 0 where
@@ -65,13 +65,13 @@ module _ (b r : Rect) (p : Placed b) (l : Lies r b) where
   west_of_lem e = lt_le r.max.x (mid_x b) (subst T (sym e) tt)
 
   east_of_lem : not (lt r.min.x (mid_x b)) ≡ true → T (le (mid_x b) r.min.x)
-  east_of_lem e = subst T (sym (sym (not-below r.min.x (mid_x b) (le_right b.min.x r.min.x l.west) mid_x_lem) ∙ e)) tt
+  east_of_lem e = subst T (sym (sym (not_below_lem r.min.x (mid_x b) (le_right b.min.x r.min.x l.west) mid_x_lem) ∙ e)) tt
 
   south_of_lem : lt r.max.y (mid_y b) ≡ true → T (le r.max.y (mid_y b))
   south_of_lem e = lt_le r.max.y (mid_y b) (subst T (sym e) tt)
 
   north_of_lem : not (lt r.min.y (mid_y b)) ≡ true → T (le (mid_y b) r.min.y)
-  north_of_lem e = subst T (sym (sym (not-below r.min.y (mid_y b) (le_right b.min.y r.min.y l.south) mid_y_lem) ∙ e)) tt
+  north_of_lem e = subst T (sym (sym (not_below_lem r.min.y (mid_y b) (le_right b.min.y r.min.y l.south) mid_y_lem) ∙ e)) tt
 
   pub lies_in_quad : (q : ℕ) → chosen b r ≡ Quadrant q → Lies r (quad_bounds b q)
   lies_in_quad q h = go (lt r.max.x (mid_x b)) (not (lt r.min.x (mid_x b))) (lt r.max.y (mid_y b)) (not (lt r.min.y (mid_y b))) refl refl refl refl h

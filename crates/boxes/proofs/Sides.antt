@@ -14,9 +14,9 @@ other b (pos (suc (suc (suc zero)))) p q r = absurd (r refl)
 other b (pos (suc (suc (suc (suc n))))) p q r = refl
 other b (negsuc n) p q r = refl
 
-pub whole-box : (b : Rect) (q : ℕ) → (q ≡ 0 → ⊥) → (q ≡ 1 → ⊥) → (q ≡ 2 → ⊥) → (q ≡ 3 → ⊥) → b ≡ quad_bounds b q
-whole-box b zero h i j k = absurd (h refl)
-whole-box b (suc zero) h i j k = absurd (i refl)
-whole-box b (suc (suc zero)) h i j k = absurd (j refl)
-whole-box b (suc (suc (suc zero))) h i j k = absurd (k refl)
-whole-box b (suc (suc (suc (suc q)))) h i j k = refl
+pub whole_box : (b : Rect) (q : ℕ) → (q ≡ 0 → ⊥) → (q ≡ 1 → ⊥) → (q ≡ 2 → ⊥) → (q ≡ 3 → ⊥) → b ≡ quad_bounds b q
+whole_box b zero h i j k = absurd (h refl)
+whole_box b (suc zero) h i j k = absurd (i refl)
+whole_box b (suc (suc zero)) h i j k = absurd (j refl)
+whole_box b (suc (suc (suc zero))) h i j k = absurd (k refl)
+whole_box b (suc (suc (suc (suc q)))) h i j k = refl

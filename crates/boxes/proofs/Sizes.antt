@@ -12,9 +12,9 @@ use lib.Ieee.{Float, nan, inf, fin, binary64, up, down, round, sum, add, sub, ne
 use lib.Ieee.Fits.{down_pos, and_l, and_r, div-fits, of_int-fits}
 use lib.Ieee.Exact.{HasValue}
 use lib.Ieee.Scale.{finite}
-use Rattle.floats.proofs.Rise.{Under, round_under, div-under}
+use Rattle.floats.proofs.Rise.{Under, round_under, div_under}
 use Rattle.floats.proofs.Ranks.{Number}
-use Rattle.floats.proofs.Ints.{minus, whole-value, i32_small}
+use Rattle.floats.proofs.Ints.{minus, whole_value, i32_small}
 use Rattle.boxes.specs.Quads.{middle}
 
 -- ---- what the format says of its values
@@ -32,9 +32,9 @@ in_format s m e h =
     )
 
 -- ---- the size of a sum is at most the sum of the sizes, rounded
-pub sum-under : (s t : Bool) (a b c n : ℕ) → 0 < c → a + b ≤ n * c → Under (sum binary64 s a t b c) (round binary64 false n 1)
+pub sum_under : (s t : Bool) (a b c n : ℕ) → 0 < c → a + b ≤ n * c → Under (sum binary64 s a t b c) (round binary64 false n 1)
 unfolding sum
-sum-under s t a b c n C h = go (beq s t) (ltb a b)
+sum_under s t a b c n C h = go (beq s t) (ltb a b)
   where
     over : (σ : Bool) (k : ℕ) → k ≤ a + b → Under (round binary64 σ k c) (round binary64 false n 1)
     over σ k l = round_under binary64 σ false k c n 1 C (zero-lt-suc 0) (rw (mul-one k) (le_trans l h))
@@ -44,12 +44,12 @@ sum-under s t a b c n C h = go (beq s t) (ltb a b)
     go false true = over t (b - a) (omega arith)
     go false false = over (s && ltb b a) (a - b) (omega arith)
 
-pub under-finite : (x y : Float) → Under x y → T (finite y) → T (finite x)
-under-finite nan y h k = h
-under-finite (inf s) nan h k = h
-under-finite (inf s) (inf t) h k = k
-under-finite (inf s) (fin t n d) h k = h
-under-finite (fin s m e) y h k = tt
+pub under_finite : (x y : Float) → Under x y → T (finite y) → T (finite x)
+under_finite nan y h k = h
+under_finite (inf s) nan h k = h
+under_finite (inf s) (inf t) h k = k
+under_finite (inf s) (fin t n d) h k = h
+under_finite (fin s m e) y h k = tt
 
 -- ---- a coordinate: its size is at most 2 ^ 400, far over that of an i32, and so small that no sum of two is infinite
 abbrev pub Coordinate : Float → Type 0
@@ -62,7 +62,7 @@ coordinate_number (inf s) c = absurd c.1
 coordinate_number (fin s m e) c = (c.0, refl)
 
 pub stored_coordinate : (z : ℤ) → mag z < 2 ^ 31 → Coordinate (of_int binary64 z)
-stored_coordinate z h = (of_int-fits binary64 z, from (of_int binary64 z) (whole-value z (i32_small z h)))
+stored_coordinate z h = (of_int-fits binary64 z, from (of_int binary64 z) (whole_value z (i32_small z h)))
   where
     size : (z : ℤ) → mag z < 2 ^ 31 → nat_abs z ≤ 2 ^ 31
     size (pos n) h = omega arith
@@ -76,13 +76,13 @@ stored_coordinate z h = (of_int-fits binary64 z, from (of_int binary64 z) (whole
         most : (x n e l : ℕ) → x * 1 ≡ n * e → n ≤ l → x * 1 ≤ l * e
         most x n e l p q = omega (arith, mul-le-mul_right e q)
 
-add-under : (x y : Float) → Under x (fin false 1 (pos 400)) → Under y (fin false 1 (pos 400)) → Under (add binary64 x y) (round binary64 false (2 ^ 401) 1)
+add_under : (x y : Float) → Under x (fin false 1 (pos 400)) → Under y (fin false 1 (pos 400)) → Under (add binary64 x y) (round binary64 false (2 ^ 401) 1)
 unfolding add
-add-under nan y p q = p
-add-under (inf s) y p q = absurd p
-add-under (fin s m e) nan p q = absurd q
-add-under (fin s m e) (inf t) p q = absurd q
-add-under (fin s m e) (fin t n d) p q = sum-under s t (m * up e * down d) (n * up d * down e) (down e * down d) (2 ^ 401) (mul-pos (down_pos e) (down_pos d)) (both (m * up e) (down e) (n * up d) (down d) (2 ^ 400) p q)
+add_under nan y p q = p
+add_under (inf s) y p q = absurd p
+add_under (fin s m e) nan p q = absurd q
+add_under (fin s m e) (inf t) p q = absurd q
+add_under (fin s m e) (fin t n d) p q = sum_under s t (m * up e * down d) (n * up d * down e) (down e * down d) (2 ^ 401) (mul-pos (down_pos e) (down_pos d)) (both (m * up e) (down e) (n * up d) (down d) (2 ^ 400) p q)
   where
     both : (x e y d l : ℕ) → x * 1 ≤ l * e → y * 1 ≤ l * d → x * d + y * e ≤ (2 * l) * (e * d)
     both x e y d l p q = omega (arith, mul-le-mul_right d p, mul-le-mul_right e q)
@@ -98,24 +98,24 @@ half = refl
 pub middle_coordinate : (x y : Float) → Coordinate x → Coordinate y → Coordinate (middle x y)
 middle_coordinate x y p q = (
   div-fits binary64 (add binary64 x y) (of_bits binary64 0x4000_0000_0000_0000),
-  rw two (subst (λ (z : Float). Under (div binary64 (add binary64 x y) (fin false 1 (pos 1))) z) half (div-under binary64 (add binary64 x y) (round binary64 false (2 ^ 401) 1) false 0 (pos 1) (add-under x y p.1 q.1))),
+  rw two (subst (λ (z : Float). Under (div binary64 (add binary64 x y) (fin false 1 (pos 1))) z) half (div_under binary64 (add binary64 x y) (round binary64 false (2 ^ 401) 1) false 0 (pos 1) (add_under x y p.1 q.1))),
 )
 
 -- the difference of two coordinates is finite
-neg-under : (x y : Float) → Under x y → Under (neg x) y
+neg_under : (x y : Float) → Under x y → Under (neg x) y
 unfolding neg
-neg-under nan y h = h
-neg-under (inf s) nan h = h
-neg-under (inf s) (inf t) h = h
-neg-under (inf s) (fin t n d) h = h
-neg-under (fin s m e) nan h = h
-neg-under (fin s m e) (inf t) h = h
-neg-under (fin s m e) (fin t n d) h = h
+neg_under nan y h = h
+neg_under (inf s) nan h = h
+neg_under (inf s) (inf t) h = h
+neg_under (inf s) (fin t n d) h = h
+neg_under (fin s m e) nan h = h
+neg_under (fin s m e) (inf t) h = h
+neg_under (fin s m e) (fin t n d) h = h
 
-wide-finite : T (finite (round binary64 false (2 ^ 401) 1))
+wide_finite : T (finite (round binary64 false (2 ^ 401) 1))
 unfolding round
-wide-finite = tt
+wide_finite = tt
 
 pub difference_finite : (x y : Float) → Coordinate x → Coordinate y → T (finite (sub binary64 x y))
 unfolding sub
-difference_finite x y p q = under-finite (add binary64 x (neg y)) (round binary64 false (2 ^ 401) 1) (add-under x (neg y) p.1 (neg-under y (fin false 1 (pos 400)) q.1)) wide-finite
+difference_finite x y p q = under_finite (add binary64 x (neg y)) (round binary64 false (2 ^ 401) 1) (add_under x (neg y) p.1 (neg_under y (fin false 1 (pos 400)) q.1)) wide_finite

@@ -1,5 +1,7 @@
 // Points, boxes and segments. Every promise is an equality with a definition of specs/, so that each
 // call has one answer.
+#![tactic(auto)]
+
 ghost use Rattle.std.specs.Prelude.{◌≡◌};
 ghost use Rattle.std.specs.Float.{binary64};
 ghost use Rattle.std.specs.Float.Ieee.{of_int};

@@ -66,6 +66,6 @@ module _ (why : Refusal) (span : List Float) (stats : List ℕ) where
   unfolding refused_told
   refused_zero e h p q = rw (e, p, q, sym h)
 
-  pub refused-kept : {said : Told} → zeroes_rooms why ≡ false → refusal_told why ≡ said → refused_told why span stats ≡ (said, span, stats)
+  pub refused_kept : {said : Told} → zeroes_rooms why ≡ false → refusal_told why ≡ said → refused_told why span stats ≡ (said, span, stats)
   unfolding refused_told
-  refused-kept e h = rw (e, sym h)
+  refused_kept e h = rw (e, sym h)

@@ -93,13 +93,13 @@ listed : (answer : Listed) → Never (list_told answer)
 listed (Count n) e = omega arith
 listed (Unlisted why) e = refused why e
 
-stripes-listed : (answer : StripesListed) → Never (stripes_told answer)
-stripes-listed (StripesFound n) e = omega arith
-stripes-listed (StripesUnlisted why) e = refused why e
+stripes_listed_lem : (answer : StripesListed) → Never (stripes_told answer)
+stripes_listed_lem (StripesFound n) e = omega arith
+stripes_listed_lem (StripesUnlisted why) e = refused why e
 
-tree-listed : (answer : TreeListed) → Never (tree_told answer)
-tree-listed (TreeFound n) e = omega arith
-tree-listed (TreeUnlisted why) e = refused why e
+tree_listed_lem : (answer : TreeListed) → Never (tree_told answer)
+tree_listed_lem (TreeFound n) e = omega arith
+tree_listed_lem (TreeUnlisted why) e = refused why e
 
 turned : (answer : Turned) → Never (turn_told answer)
 turned (Turns Anticlockwise) e = omega arith
@@ -177,11 +177,11 @@ never_list_scan κs a z e p six =
 
 never_list_stripes : (κs : _) (a : _) (z : _) (e : _) → list-stripes.Post κs a z e → z ≡ 106 → ⊥
 never_list_stripes κs a z e p six =
-    in_room stripes_told stripes-listed (stripes_listed a.0.now a.1.0 a.1.1.0 a.1.1.1.0 a.1.1.1.1.0.now a.1.1.1.1.1.0.now a.1.1.1.1.1.1.0 a.1.1.1.1.1.1.1.0.now) (ap (λ w. w.0.0) p ∙ six)
+    in_room stripes_told stripes_listed_lem (stripes_listed a.0.now a.1.0 a.1.1.0 a.1.1.1.0 a.1.1.1.1.0.now a.1.1.1.1.1.0.now a.1.1.1.1.1.1.0 a.1.1.1.1.1.1.1.0.now) (ap (λ w. w.0.0) p ∙ six)
 
 never_list_tree : (κs : _) (a : _) (z : _) (e : _) → list-tree.Post κs a z e → z ≡ 106 → ⊥
 never_list_tree κs a z e p six =
-    in_room tree_told tree-listed (tree_listed a.0.now a.1.0 a.1.1.0.now a.1.1.1.0 a.1.1.1.1.0.now) (ap (λ w. w.0.0) p ∙ six)
+    in_room tree_told tree_listed_lem (tree_listed a.0.now a.1.0 a.1.1.0.now a.1.1.1.0 a.1.1.1.1.0.now) (ap (λ w. w.0.0) p ∙ six)
 
 never_ring_scan : (κs : _) (a : _) (z : _) (e : _) → ring-scan.Post κs a z e → z ≡ 106 → ⊥
 never_ring_scan κs a z e p six =

@@ -2,6 +2,8 @@
 // over as its pointer and its length. include/brothstitch.h tells a caller what each one does. Each call
 // stands in a file of its own, asks one function of the library and tells its answer: 0 for no or for
 // done, 1 for yes or built, 100 and the refusal's number; the turn is 0, 1 or 2 (ring_turn). A count, or a refusal's place, goes to value, else 0.
+#![tactic(auto)]
+
 mod ask_inside;
 mod ask_plain;
 mod build_indexes;

@@ -1,4 +1,6 @@
 // The ring test with floats: what one segment makes of the answer, and the test of a whole ring by scan.
+#![tactic(auto)]
+
 ghost use Rattle.std.specs.Prelude.{◌≡◌, ◌+◌, ◌*◌, ◌<◌, ◌≤◌, length};
 ghost use Rattle.answers.specs.Answers.{said};
 ghost use Rattle.rings.specs.Ring.{wide};

@@ -1,7 +1,8 @@
 -- Whatever is given, any two outcomes that meet the promise of a public function here are equal. Assumes nothing.
 use mathlib.Core.Path.{sym, ◌∙◌}
 use Rattle.outcome.specs.OneOutcome.{OneOutcome}
-use Rattle.cross.proofs.cross_sign
+use Rattle.cross.specs.contracts.cross_sign
+use Rattle.cross.proofs.cross_sign.Reads as cross_sign_reads
 
-pub one-cross-sign : OneOutcome cross_sign.ended cross_sign.Reads.Post
-one-cross-sign _ _ _ _ _ _ p q = p ∙ sym q
+pub one_cross_sign : OneOutcome cross_sign.ended cross_sign_reads.Post
+one_cross_sign _ _ _ _ _ _ p q = p ∙ sym q

@@ -1,4 +1,6 @@
 // The sign of the cross: on which side of a segment a place lies, exactly, for any i32.
+#![tactic(auto)]
+
 ghost use Rattle.std.specs.Prelude.{◌≡◌, ◌^◌, ◌<◌, ◌-ℤ◌, ◌*ℤ◌};
 ghost use Rattle.cross.specs.Cross.{cross, sign_of};
 ghost use Rattle.cross.specs.Inner.Signed.{value_of};

@@ -12,7 +12,7 @@ use Rattle.rings.specs.Ring.{wide, segments}
 use Rattle.rings.specs.Checks.{ring_checked}
 use Rattle.stripes_count.specs.Count.{stripe_count}
 use Rattle.stripes_index.specs.Index.{part_of, list_of as entered, table_of}
-use Rattle.stripes_index.proofs.Pairs.{pairs-length}
+use Rattle.stripes_index.proofs.Pairs.{pairs_length}
 use Rattle.stripes_build.specs.declared.StripesStats.{StripesStats}
 use Rattle.stripes_build.specs.Build.{crosses_in}
 use Rattle.stripes_build.proofs.Building.{Indexed as Filled, built_is}
@@ -34,7 +34,7 @@ module _ (ring : ℕ → Float) (n : ℕ) (stripes list : List ℕ) (least heigh
       let cross = crosses_in ring n in
       let m = stripe_count ring n in
       ap₂ (λ (c : StripesStats) (x : List ℕ). take (c.stripes * 2) x) b.counts b.table
-      ∙ pad_used (length stripes) (table_of cross n m) (m * 2) (pairs-length (λ k. length (entered cross n k)) (λ k. length (part_of cross n k)) m)
+      ∙ pad_used (length stripes) (table_of cross n m) (m * 2) (pairs_length (λ k. length (entered cross n k)) (λ k. length (part_of cross n k)) m)
 
   used_list : take stats.entries l ≡ entered (crosses_in ring n) n (stripe_count ring n)
   used_list =
@@ -42,10 +42,10 @@ module _ (ring : ℕ → Float) (n : ℕ) (stripes list : List ℕ) (least heigh
       ap₂ (λ (c : StripesStats) (x : List ℕ). take c.entries x) b.counts b.numbers ∙ pad_used (length list) whole (length whole) refl
 
 module _ (x : Indexes) (k : ℕ) (ring : List ℤ) (points : ℕ) where
-  own-stripes : (stats : StripesStats) (s l : List ℕ) → StripesOf ring points (least_of x.spans k) (height_of x.spans k) stats s l
+  own_stripes : (stats : StripesStats) (s l : List ℕ) → StripesOf ring points (least_of x.spans k) (height_of x.spans k) stats s l
       → stripes_of x.table x.stripes k ≡ take (stats.stripes * 2) s → list_of x.table x.list k ≡ take stats.entries l
       → stripes_lie x k ≡ true → OwnStripes x k (wide ring) (segments points)
-  own-stripes stats s l (threshold, stripes, list, built) e f lie =
+  own_stripes stats s l (threshold, stripes, list, built) e f lie =
       let n = segments points in
       let least = least_of x.spans k in
       let height = height_of x.spans k in
@@ -62,7 +62,7 @@ module _ (x : Indexes) (k : ℕ) (ring : List ℤ) (points : ℕ) where
   pub own_built : BuiltIndex x k ring points → OwnIndex x k (wide ring) points
   own_built i =
       record {
-        stripes = λ h. let o = i.stripes h in own-stripes o.0 o.1 o.2 o.3 o.4 o.5 o.6;
+        stripes = λ h. let o = i.stripes h in own_stripes o.0 o.1 o.2 o.3 o.4 o.5 o.6;
         lies = λ h. (i.tree h).4;
         tree =
             λ h.

@@ -25,7 +25,7 @@ use Rattle.stripes_agree.proofs.Demand.{built_sound, demand_3 as stripes-demand}
 use Rattle.stripes_agree.proofs.AsScan.{tests_as_scan}
 use Rattle.tree.specs.Search.{ends}
 use Rattle.tree.proofs.Searchable.{stored}
-use Rattle.tree.proofs.Demand.{tree-found, tree_lists}
+use Rattle.tree.proofs.Demand.{tree_found, tree_lists}
 use Rattle.tree_find.specs.declared.TreeListed.TheVariants.{TreeFound, TreeUnlisted}
 use Rattle.tree_find.specs.Find.{tree_listed, tree_tested}
 use Rattle.tree_find.proofs.Demand.{lists_all}
@@ -44,13 +44,13 @@ use Rattle.outline_agree.proofs.Demand.{demand_3 as outline-demand, one_answer}
 use Rattle.outline_index.specs.declared.BuildOptions.{BuildOptions}
 use Rattle.outline_index.specs.Parts.{has_stripes as getsStripes, has_tree as getsTree}
 use Rattle.outline_read.proofs.Left.{left_own, left_stripes, left_tree}
-use Rattle.outline_read.proofs.Demand.{built_answers, none-own, zeros_own}
+use Rattle.outline_read.proofs.Demand.{built_answers, none_own, zeros_own}
 use Rattle.demand_3.specs.Words.{listing, in_node_order}
 use Rattle.demand_3.specs.Demand3.{Demand3, StripesOf, TreeOf, RecordOf, IndexesOf}
 use Rattle.demand_3.proofs.Lists.{meeting_rises, by_scan_lem, by_stripes_lem, by_tree_lem}
 use Rattle.demand_3.proofs.Choice.{own_built}
 use Rattle.demand_3.proofs.Entries.{stats_entries, row_entries}
-use Rattle.demand_3.proofs.Gets.{stripes-got, record_got, indexes_got}
+use Rattle.demand_3.proofs.Gets.{stripes_got, record_got, indexes_got}
 
 -- of a ring that passed its checks the scan's test is what the scan's call answers
 scan_answers : (ring : List ℤ) (points : ℕ) → ring_checked ring points ≡ Sound → (p : Point) (edge : Bool) → scan_test (wide ring) points p edge ≡ scan_tested ring points p edge
@@ -66,13 +66,13 @@ module _ (ring : List ℤ) (points : ℕ) where
   same sound y i =
       let few = (stored ring points).few sound in
       let plain = (stored ring points).plain sound in
-      sym (ap (count i) (tree-found (wide ring) points y few plain).0) ∙ tree_lists (wide ring) points y few plain i
+      sym (ap (count i) (tree_found (wide ring) points y few plain).0) ∙ tree_lists (wide ring) points y few plain i
 
   module _ (nums : I32s ring) (least height : Float) (stats : StripesStats) (s l : List ℕ) where
-    stripes-list : StripesOf ring points least height stats s l → (y : Float) → finite y ≡ true → (room : List ℕ)
+    stripes_list : StripesOf ring points least height stats s l → (y : Float) → finite y ≡ true → (room : List ℕ)
         → stripes_listed ring points least height (take (stats.stripes * 2) s) (take stats.entries l) y room
         ≡ listing StripesFound (StripesUnlisted NoRoom) (meeting (wide ring) points y) room
-    stripes-list (threshold, stripes, list, built) y f room =
+    stripes_list (threshold, stripes, list, built) y f room =
         stripes-demand ring points threshold nums stripes list least height stats s l built y room f ∙ by_stripes_lem (meeting (wide ring) points y) room
 
     stripes_test : StripesOf ring points least height stats s l → (p : Point) (edge : Bool)
@@ -82,9 +82,9 @@ module _ (ring : List ℤ) (points : ℕ) where
         ∙ scan_answers ring points (built_sound ring points threshold nums stripes list least height stats s l built p.y) p edge
 
   module _ (n : ℕ) (b : List ℕ) where
-    tree-list : TreeOf ring points n b → (y : Float) → finite y ≡ true → (room : List ℕ)
+    tree_list_lem : TreeOf ring points n b → (y : Float) → finite y ≡ true → (room : List ℕ)
         → tree_listed ring points (take n b) y room ≡ listing TreeFound (TreeUnlisted NoRoom) (in_node_order (wide ring) points y) room
-    tree-list (threshold, bytes, work, w, built) y f room =
+    tree_list_lem (threshold, bytes, work, w, built) y f room =
         ap (λ (xs : List ℕ). tree_listed ring points xs y room) (used (ring_checked ring points) (wide ring) points threshold (stored ring points) bytes work n b w built)
         ∙ lists_all (ring_checked ring points) (wide ring) points (stored ring points) (built_is (ring_checked ring points) (wide ring) points bytes work n b w threshold built).sound y room f
         ∙ by_tree_lem (in_node_order (wide ring) points y) room 0
@@ -130,9 +130,9 @@ demand_3 =
       no_other = no_other;
       by_rising_number = meeting_rises;
       scan_lists = scan;
-      stripes-list = stripes-list;
-      tree_lists = tree-list;
-      same-segments = same;
+      stripes_list = stripes_list;
+      tree_lists = tree_list_lem;
+      same_segments = same;
       stripes_test = stripes_test;
       tree_test = tree_test;
       inside = outline-demand;
@@ -140,17 +140,17 @@ demand_3 =
       any_choice = λ x sizes coords built k below. own_built x k (ring_of sizes coords k) (size_at sizes k) (built k below);
       made_record = made;
       built_indexes = own;
-      no_index = none-own;
+      no_index = none_own;
       zero_table = zeros_own;
       built_inside = built_inside;
-      gets_stripes = stripes-got;
+      gets_stripes = stripes_got;
       gets_tree =
           λ ring points threshold bytes work sound reached roomy enough.
           (_, _, _, builds (ring_checked ring points) (wide ring) points threshold bytes work sound reached enough roomy);
       gets_record = record_got;
       gets_indexes =
           λ sizes coords options table spans stripes list bytes work sound room. indexes_got sizes coords options table spans stripes list bytes work room sound;
-      each-ring = each;
+      each_ring_of = each;
       entries =
           λ ring points least height stats s l o. stats_entries ring points o.0 o.1 o.2 least height stats s l o.3;
       built_entries =

@@ -16,7 +16,7 @@ use Rattle.rings.specs.Checks.{ring_checked}
 use Rattle.stripes_count.specs.Count.{stripe_count}
 use Rattle.stripes_index.specs.Index.{part_of, list_of as entered}
 use Rattle.stripes_index.specs.Inner.States.{sum_to}
-use Rattle.stripes_index.proofs.Pairs.{pairs-length}
+use Rattle.stripes_index.proofs.Pairs.{pairs_length}
 use Rattle.stripes_index.proofs.Starts.{sum_ext}
 use Rattle.stripes_build.specs.declared.StripesStats.{StripesStats}
 use Rattle.stripes_build.specs.declared.StripesBuilt.TheVariants.{Striped}
@@ -30,7 +30,7 @@ use Rattle.outline_check.specs.Rules.{shape_checked, outline_checked}
 use Rattle.outline_record.specs.declared.Made.TheVariants.{Rings}
 use Rattle.outline_record.specs.Record.{boxes_of}
 use Rattle.outline_record.specs.Made.{pad_z, boxes_made}
-use Rattle.outline_record.proofs.Pad.{recorded-fits}
+use Rattle.outline_record.proofs.Pad.{recorded_fits}
 use Rattle.outline_index.specs.declared.BuildOptions.{BuildOptions}
 use Rattle.outline_index.specs.Pools.{in_turn, every}
 use Rattle.outline_index.specs.Parts.{has_stripes, has_tree, ring_stripes, stripes_part, list_part, bytes_part, span_part, few_stripes, enough_work}
@@ -41,28 +41,28 @@ use Rattle.outline_build.proofs.Roomy.{Enough}
 use Rattle.outline_build.proofs.Enough.{builds as builds-all}
 use Rattle.demand_3.specs.Words.{stripes_crossed, stripes_called, entries_called, bytes_called}
 use Rattle.demand_3.specs.Demand3.{RoomFor}
-use Rattle.demand_3.proofs.Entries.{own-entries}
+use Rattle.demand_3.proofs.Entries.{own_entries}
 
 -- ---- one ring
 module _ (ring : List ℤ) (points threshold : ℕ) (stripes list : List ℕ) where
-  pub stripes-got : ring_checked ring points ≡ Sound → threshold ≤ segments points → stripe_count (wide ring) (segments points) ≤ 65536
+  pub stripes_got : ring_checked ring points ≡ Sound → threshold ≤ segments points → stripe_count (wide ring) (segments points) ≤ 65536
       → stripe_count (wide ring) (segments points) * 2 ≤ length stripes → sum_to (stripes_crossed (wide ring) (segments points)) (segments points) ≤ length list
       → (least : Float) × (height : Float) × (stats : StripesStats) × (s : List ℕ) × (l : List ℕ)
       × (stripes_built ring points threshold stripes list ≡ (Striped least height stats, s, l))
-  stripes-got sound reached few enough roomy = (
+  stripes_got sound reached few enough roomy = (
     _,
     _,
     _,
     _,
     _,
-    builds-stripes ring points threshold stripes list sound reached few enough (omega (arith, own-entries (wide ring) (segments points) few)),
+    builds-stripes ring points threshold stripes list sound reached few enough (omega (arith, own_entries (wide ring) (segments points) few)),
   )
 
 pub record_got : (outline : Outline) (sizes : List ℕ) (coords boxes : List ℤ) → outline_checked outline.scale sizes coords ≡ Sound
     → 4 * rings sizes ≤ length boxes
     → (room : List ℤ) × (boxes_made outline.scale sizes coords boxes ≡ (Rings (rings sizes), room))
 unfolding boxes_made
-record_got outline sizes coords boxes sound roomy = (pad_z (length boxes) (boxes_of sizes coords), rw sound (recorded-fits sizes coords boxes roomy))
+record_got outline sizes coords boxes sound roomy = (pad_z (length boxes) (boxes_of sizes coords), rw sound (recorded_fits sizes coords boxes roomy))
 
 -- ---- all rings
 turn_length : {A : Type 0} (f : ℕ → List A) (m : ℕ) → length (in_turn f m) ≡ sum_to (λ k. length (f k)) m
@@ -81,33 +81,33 @@ unless true c h = h refl
 unless false c h = refl
 
 module _ (options : BuildOptions) (ring : ℕ → Float) (points : ℕ) where
-  pairs-called : length (stripes_part options ring points) ≡ stripes_called options ring points
+  pairs_called : length (stripes_part options ring points) ≡ stripes_called options ring points
   unfolding stripes_part
-  pairs-called = go (has_stripes options (segments points))
+  pairs_called = go (has_stripes options (segments points))
     where
       n : ℕ
       n = segments points
 
       go : (b : Bool) → length (cond b (ring_stripes ring n) []) ≡ cond b (stripe_count ring n * 2) 0
-      go true = pairs-length (λ s. length (entered (crosses_in ring n) n s)) (λ s. length (part_of (crosses_in ring n) n s)) (stripe_count ring n)
+      go true = pairs_length (λ s. length (entered (crosses_in ring n) n s)) (λ s. length (part_of (crosses_in ring n) n s)) (stripe_count ring n)
       go false = refl
 
-  numbers-called : (has_stripes options (segments points) ≡ true → stripe_count ring (segments points) ≤ 65536)
+  numbers_called : (has_stripes options (segments points) ≡ true → stripe_count ring (segments points) ≤ 65536)
       → length (list_part options ring points) ≡ entries_called options ring points
   unfolding list_part
-  numbers-called few = go (has_stripes options (segments points)) few
+  numbers_called few = go (has_stripes options (segments points)) few
     where
       n : ℕ
       n = segments points
 
       go : (b : Bool) → (b ≡ true → stripe_count ring n ≤ 65536)
           → length (cond b (entered (crosses_in ring n) n (stripe_count ring n)) []) ≡ cond b (sum_to (stripes_crossed ring n) n) 0
-      go true h = own-entries ring n (h refl)
+      go true h = own_entries ring n (h refl)
       go false h = refl
 
-  trees-called : length (bytes_part options ring points) ≡ bytes_called options ring points
+  trees_called : length (bytes_part options ring points) ≡ bytes_called options ring points
   unfolding bytes_part
-  trees-called = go (has_tree options (segments points))
+  trees_called = go (has_tree options (segments points))
     where
       go : (b : Bool) → length (cond b (tree_bytes ring points) []) ≡ cond b (length (tree_bytes ring points)) 0
       go true = refl
@@ -136,7 +136,7 @@ module _ (sizes : List ℕ) (coords : List ℤ) (options : BuildOptions) (table 
               arith,
               turn_length (λ j. stripes_part options (ring j) (size j)) m,
               sum_ext (λ j. length (stripes_part options (ring j) (size j))) (λ j. stripes_called options (ring j) (size j)) m
-                  (λ j l. pairs-called options (ring j) (size j)),
+                  (λ j l. pairs_called options (ring j) (size j)),
               room.pairs,
             );
         entries =
@@ -144,7 +144,7 @@ module _ (sizes : List ℕ) (coords : List ℤ) (options : BuildOptions) (table 
               arith,
               turn_length (λ j. list_part options (ring j) (size j)) m,
               sum_ext (λ j. length (list_part options (ring j) (size j))) (λ j. entries_called options (ring j) (size j)) m
-                  (λ j l. numbers-called options (ring j) (size j) (room.few j l)),
+                  (λ j l. numbers_called options (ring j) (size j) (room.few j l)),
               room.numbers,
             );
         packed =
@@ -152,7 +152,7 @@ module _ (sizes : List ℕ) (coords : List ℤ) (options : BuildOptions) (table 
               arith,
               turn_length (λ j. bytes_part options (ring j) (size j)) m,
               sum_ext (λ j. length (bytes_part options (ring j) (size j))) (λ j. bytes_called options (ring j) (size j)) m
-                  (λ j l. trees-called options (ring j) (size j)),
+                  (λ j l. trees_called options (ring j) (size j)),
               room.trees,
             );
         called = all_hold (calls options sizes coords work) m (λ j l. called options (ring j) (size j) work (room.few j l) (room.working j l));

@@ -27,10 +27,10 @@ rises_cons : (x : ℕ) (xs : List ℕ) → (0 < length xs → x < get_or xs 0 0)
 rises_cons x xs first rest zero h = first (omega arith)
 rises_cons x xs first rest (suc j) h = rest j (omega arith)
 
-keep-first : (t : ℕ → Bool) (n i : ℕ) → 0 < length (keep t n i) → i ≤ get_or (keep t n i) 0 0
+keep_first : (t : ℕ → Bool) (n i : ℕ) → 0 < length (keep t n i) → i ≤ get_or (keep t n i) 0 0
 unfolding keep
-keep-first t zero i h = absurd (omega arith)
-keep-first t (suc n) i h = go (t i) (keep-first t n (i + 1)) h
+keep_first t zero i h = absurd (omega arith)
+keep_first t (suc n) i h = go (t i) (keep_first t n (i + 1)) h
   where
     go : (b : Bool) → (0 < length (keep t n (i + 1)) → i + 1 ≤ get_or (keep t n (i + 1)) 0 0)
         → 0 < length (cons_if b i (keep t n (i + 1))) → i ≤ get_or (cons_if b i (keep t n (i + 1))) 0 0
@@ -43,7 +43,7 @@ keep_rises t zero i = λ j h. absurd (omega arith)
 keep_rises t (suc n) i = go (t i) (keep_rises t n (i + 1))
   where
     go : (b : Bool) → Rises (keep t n (i + 1)) → Rises (cons_if b i (keep t n (i + 1)))
-    go true later = rises_cons i (keep t n (i + 1)) (λ l. omega (arith, keep-first t n (i + 1) l)) later
+    go true later = rises_cons i (keep t n (i + 1)) (λ l. omega (arith, keep_first t n (i + 1) l)) later
     go false later = later
 
 pub meeting_rises : (ring : ℕ → Float) (points : ℕ) (y : Float) → Rises (meeting ring points y)

@@ -100,14 +100,14 @@ pub record Demand3 : Type 0 where
   pub scan_lists : (ring : List ℤ) (points : ℕ) → ring_checked ring points ≡ Sound → (y : Float) → finite y ≡ true → (room : List ℕ)
       → scanned ring points y room ≡ listing Count (Unlisted NoRoom) (meeting (wide ring) points y) room
   -- ---- 3. so do the stripes that were built from the ring
-  pub stripes-list : (ring : List ℤ) (points : ℕ) → I32s ring → (least height : Float) (stats : StripesStats) (s l : List ℕ)
+  pub stripes_list : (ring : List ℤ) (points : ℕ) → I32s ring → (least height : Float) (stats : StripesStats) (s l : List ℕ)
       → StripesOf ring points least height stats s l → (y : Float) → finite y ≡ true → (room : List ℕ)
       → stripes_listed ring points least height (take (stats.stripes * 2) s) (take stats.entries l) y room
       ≡ listing StripesFound (StripesUnlisted NoRoom) (meeting (wide ring) points y) room
   -- ---- 4. the tree that was built from the ring lists them in node order, and that is each of them exactly once and no other
   pub tree_lists : (ring : List ℤ) (points n : ℕ) (b : List ℕ) → TreeOf ring points n b → (y : Float) → finite y ≡ true → (room : List ℕ)
       → tree_listed ring points (take n b) y room ≡ listing TreeFound (TreeUnlisted NoRoom) (in_node_order (wide ring) points y) room
-  pub same-segments : (ring : List ℤ) (points : ℕ) → ring_checked ring points ≡ Sound → (y : Float) (i : ℕ)
+  pub same_segments : (ring : List ℤ) (points : ℕ) → ring_checked ring points ≡ Sound → (y : Float) (i : ℕ)
       → count i (in_node_order (wide ring) points y) ≡ count i (meeting (wide ring) points y)
   -- ---- 5. the ring tests through them are the scan's, for every point and both edge rules
   pub stripes_test : (ring : List ℤ) (points : ℕ) → I32s ring → (least height : Float) (stats : StripesStats) (s l : List ℕ)
@@ -154,7 +154,7 @@ pub record Demand3 : Type 0 where
       → shape_checked sizes coords ≡ Sound → RoomFor sizes coords options table spans stripes list bytes work
       → (t : List ℕ) × (sp : List Float) × (s : List ℕ) × (l : List ℕ) × (b : List ℕ) × (w : List ℕ)
       × (indexes_built sizes coords options table spans stripes list bytes work ≡ (Indexed (rings sizes), t, sp, s, l, b, w))
-  pub each-ring : (sizes : List ℕ) (coords : List ℤ) (options : BuildOptions) (t : List ℕ) (sp : List Float) (s l b : List ℕ)
+  pub each_ring_of : (sizes : List ℕ) (coords : List ℤ) (options : BuildOptions) (t : List ℕ) (sp : List Float) (s l b : List ℕ)
       → IndexesOf sizes coords options t sp s l b → (k : ℕ) → k < rings sizes
       → (has_stripes t k ≡ getsStripes options (segments (size_at sizes k))) × (has_tree t k ≡ getsTree options (segments (size_at sizes k)))
   -- ---- Statistics: "Entries in all equals the sum, over segments, of stripes crossed", of one ring's stripes and of each ring of a built outline.

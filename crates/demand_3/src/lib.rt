@@ -1,1 +1,2 @@
 // No code: demand 3 stands in specs/Demand3.antt and is proved in proofs/Demand3.antt.
+#![tactic(auto)]

@@ -16,7 +16,7 @@ use lib.Ieee.Order.{round_mono, kept, drop}
 use lib.Ieee.Scale.{finite}
 use lib.Ieee.Positive.{positive}
 use Rattle.floats.specs.Next.{zero_of}
-use Rattle.floats.proofs.Parts.{part, part-mul, Cross≤, crossed, uncrossed}
+use Rattle.floats.proofs.Parts.{part, part_mul, Cross≤, crossed, uncrossed}
 use Rattle.floats.proofs.Order.{minus_inf_le, le_plus_inf, le_left, le_refl, le_trans, eq_le, eq_sym, neg_le, zeros_alike}
 use Rattle.floats.proofs.Rise.{Under, Nonneg, round_under, round_zero, round_plain}
 
@@ -77,9 +77,9 @@ nonneg_le (fin false m e) h = uncrossed false 0 (pos 0) false m e (least (m * up
     least : (a d : ℕ) → 0 * 1 * d + 0 * 1 ≤ a * 1 + 0 * d
     least a d = omega arith
 
-neg-under : (x y : Float) → Nonneg x → Nonneg y → T (le (neg x) y)
+neg_under : (x y : Float) → Nonneg x → Nonneg y → T (le (neg x) y)
 unfolding neg
-neg-under x y p q =
+neg_under x y p q =
     le_trans (neg x) (zero_of true) y (neg_le (zero_of false) x (nonneg_le x p))
     (le_trans (zero_of true) (zero_of false) y (eq_le (zero_of true) (zero_of false) (zeros_alike true false)) (nonneg_le y q))
 
@@ -91,7 +91,7 @@ round_keeps f false a p true b q P Q h =
     none : (a q : ℕ) → 0 < q → a * q ≡ 0 → a ≡ 0
     none zero q Q h = refl
     none (suc a) q Q h = omega (arith, mul-pos (zero-lt-suc a) Q)
-round_keeps f true a p false b q P Q h = rw (round_neg f a p) (neg-under (round f false a p) (round f false b q) (round_plain f a p) (round_plain f b q))
+round_keeps f true a p false b q P Q h = rw (round_neg f a p) (neg_under (round f false a p) (round f false b q) (round_plain f a p) (round_plain f b q))
 round_keeps f true a p true b q P Q h =
     rw (round_neg f a p, round_neg f b q) (neg_le (round f false b q) (round f false a p) (round_mono f b q a p Q P (omega arith)))
 
@@ -146,7 +146,7 @@ Even u p s a t b = part u p + (part (not s) a + part (not t) b) ≡ part (not u)
 
 even_mul : (u : Bool) (p : ℕ) (s : Bool) (a q : ℕ) (t : Bool) (b r : ℕ) → Even u p s (a * q) t (b * r)
     → part u p + (part (not s) a * q + part (not t) b * r) ≡ part (not u) p + (part s a * q + part t b * r)
-even_mul u p s a q t b r h = rw (← part-mul s a q, ← part-mul (not s) a q, ← part-mul t b r, ← part-mul (not t) b r) h
+even_mul u p s a q t b r h = rw (← part_mul s a q, ← part_mul (not s) a q, ← part_mul t b r, ← part_mul (not t) b r) h
 
 unlike_plain : (s : Bool) → unlike s false ≡ s
 unlike_plain true = refl
@@ -180,7 +180,7 @@ module _ (f : Format) where
       rw (eqb-suc-zero n, unlike_plain s, unlike_plain r)
       (round_keeps f s (m * up e * down d) (suc n * up d * down e) r (k * up g * down d) (suc n * up d * down g)
       (mul-pos (mul-pos (zero-lt-suc n) (up_pos d)) (down_pos e)) (mul-pos (mul-pos (zero-lt-suc n) (up_pos d)) (down_pos g))
-      (rw (part-mul s (m * up e) (down d), part-mul (not s) (m * up e) (down d), part-mul r (k * up g) (down d), part-mul (not r) (k * up g) (down d))
+      (rw (part_mul s (m * up e) (down d), part_mul (not s) (m * up e) (down d), part_mul r (k * up g) (down d), part_mul (not r) (k * up g) (down d))
       (scaled (part s (m * up e)) (part (not s) (m * up e)) (down e) (part r (k * up g)) (part (not r) (k * up g)) (down g) (down d) (suc n * up d) (crossed s m e r k g h))))
     where
       scaled : (xp xq xd yp yq yd u v : ℕ) → xp * yd + yq * xd ≤ yp * xd + xq * yd → xp * u * (v * yd) + yq * u * (v * xd) ≤ yp * u * (v * xd) + xq * u * (v * yd)
@@ -200,7 +200,7 @@ module _ (f : Format) where
   mul_inner n d s m e r k g h =
       rw (unlike_plain s, unlike_plain r)
       (round_keeps f s (m * up e * (n * up d)) (down e * down d) r (k * up g * (n * up d)) (down g * down d) (mul-pos (down_pos e) (down_pos d)) (mul-pos (down_pos g) (down_pos d))
-      (rw (part-mul s (m * up e) (n * up d), part-mul (not s) (m * up e) (n * up d), part-mul r (k * up g) (n * up d), part-mul (not r) (k * up g) (n * up d))
+      (rw (part_mul s (m * up e) (n * up d), part_mul (not s) (m * up e) (n * up d), part_mul r (k * up g) (n * up d), part_mul (not r) (k * up g) (n * up d))
       (scaled (part s (m * up e)) (part (not s) (m * up e)) (down e) (part r (k * up g)) (part (not r) (k * up g)) (down g) (n * up d) (down d) (crossed s m e r k g h))))
     where
       scaled : (xp xq xd yp yq yd u v : ℕ) → xp * yd + yq * xd ≤ yp * xd + xq * yd → xp * u * (yd * v) + yq * u * (xd * v) ≤ yp * u * (xd * v) + xq * u * (yd * v)

@@ -50,9 +50,9 @@ unfolding next_up_of is_nan to_bits of_bits
 from_zero true = refl
 from_zero false = refl
 
-from-finite : (s : Bool) (m : ℕ) (e : ℤ) → T (lt (fin s m e) (inf false))
+from_finite : (s : Bool) (m : ℕ) (e : ℤ) → T (lt (fin s m e) (inf false))
 unfolding lt
-from-finite s m e = tt
+from_finite s m e = tt
 
 pub next_up_meets : (x : Float) → T (fits binary64 x) → NextUp binary64 x (next_up_of x)
 next_up_meets nan f = sym (at_nan nan refl)
@@ -61,7 +61,7 @@ next_up_meets (inf false) f = from_infinity false
 next_up_meets (fin s zero e) f = ap next_up_of (zero_is binary64 s e f) ∙ from_zero s
 next_up_meets (fin s (suc m) e) f =
     let x = fin s (suc m) e in
-    let h = from-finite s (suc m) e in
+    let h = from_finite s (suc m) e in
     (next_fits x, next_least x f h, minus_zero binary64 (next_up_of x) (next_fits x) (never_plus x f h))
 
 -- what `next_up` promises, of a result that is computed

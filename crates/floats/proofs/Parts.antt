@@ -36,9 +36,9 @@ abbrev pub part : Bool → ℕ → ℕ
 part false a = a
 part true a = 0
 
-pub part-mul : (s : Bool) (a k : ℕ) → part s (a * k) ≡ part s a * k
-part-mul false a k = refl
-part-mul true a k = sym (zero-mul k)
+pub part_mul : (s : Bool) (a k : ℕ) → part s (a * k) ≡ part s a * k
+part_mul false a k = refl
+part_mul true a k = sym (zero-mul k)
 
 -- ±a ≤ ±b
 abbrev pub Signed≤ : Bool → ℕ → Bool → ℕ → Type 0
@@ -99,11 +99,11 @@ module _ (s : Bool) (m : ℕ) (e : ℤ) (t : Bool) (n : ℕ) (d : ℤ) where
   pub crossed : T (le (fin s m e) (fin t n d)) → Cross≤ s (m * up e) (down e) t (n * up d) (down d)
   unfolding le
   crossed h =
-      rw (← part-mul s (m * up e) (down d), ← part-mul (not t) (n * up d) (down e), ← part-mul t (n * up d) (down e), ← part-mul (not s) (m * up e) (down d))
+      rw (← part_mul s (m * up e) (down d), ← part_mul (not t) (n * up d) (down e), ← part_mul t (n * up d) (down e), ← part_mul (not s) (m * up e) (down d))
       (parts_le s t (m * up e * down d) (n * up d * down e) h)
 
   pub uncrossed : Cross≤ s (m * up e) (down e) t (n * up d) (down d) → T (le (fin s m e) (fin t n d))
   unfolding le
   uncrossed h =
       le_parts s t (m * up e * down d) (n * up d * down e)
-      (rw (part-mul s (m * up e) (down d), part-mul (not t) (n * up d) (down e), part-mul t (n * up d) (down e), part-mul (not s) (m * up e) (down d)) h)
+      (rw (part_mul s (m * up e) (down d), part_mul (not t) (n * up d) (down e), part_mul t (n * up d) (down e), part_mul (not s) (m * up e) (down d)) h)

@@ -15,13 +15,13 @@ use Rattle.floats.specs.Values.{abs_of, lesser_of, greater_of}
 use Rattle.floats.proofs.Parts.{or_split, or_left, or_right}
 use Rattle.floats.proofs.Order.{zero_either, le_refl, le_trans, le_left, le_right, le_antisym, lt_le, lt_not_le, lt_is_not_le}
 
-pub abs-below : (x : Float) → lt x (zero_of false) ≡ true → neg x ≡ abs_of x
+pub abs_below : (x : Float) → lt x (zero_of false) ≡ true → neg x ≡ abs_of x
 unfolding lt neg abs_of
-abs-below nan h = refl
-abs-below (inf true) h = refl
-abs-below (inf false) h = absurd (true≢false (sym h))
-abs-below (fin true m e) h = refl
-abs-below (fin false m e) h = absurd (clash (m * up e) (down e) (ltb-true (m * up e * 1) (0 * 1 * down e) h))
+abs_below nan h = refl
+abs_below (inf true) h = refl
+abs_below (inf false) h = absurd (true≢false (sym h))
+abs_below (fin true m e) h = refl
+abs_below (fin false m e) h = absurd (clash (m * up e) (down e) (ltb-true (m * up e * 1) (0 * 1 * down e) h))
   where
     clash : (a d : ℕ) → a * 1 < 0 * 1 * d → ⊥
     clash a d h = omega arith
@@ -30,13 +30,13 @@ pub abs_zero : (x : Float) → T (fits binary64 x) → eq x (zero_of false) ≡ 
 unfolding abs_of
 abs_zero x f h = let z = zero_either binary64 x f (subst T (sym h) tt) in rw z.1
 
-pub abs-above : (x : Float) → lt x (zero_of false) ≡ false → eq x (zero_of false) ≡ false → x ≡ abs_of x
+pub abs_above : (x : Float) → lt x (zero_of false) ≡ false → eq x (zero_of false) ≡ false → x ≡ abs_of x
 unfolding lt eq abs_of
-abs-above nan h k = refl
-abs-above (inf true) h k = absurd (true≢false h)
-abs-above (inf false) h k = refl
-abs-above (fin false m e) h k = refl
-abs-above (fin true m e) h k =
+abs_above nan h k = refl
+abs_above (inf true) h k = absurd (true≢false h)
+abs_above (inf false) h k = refl
+abs_above (fin false m e) h k = refl
+abs_above (fin true m e) h k =
     let a : m * up e * 1 + 0 * 1 * down e ≤ 0 = ltb-false 0 (m * up e * 1 + 0 * 1 * down e) h in
     let b : m * up e * 1 ≡ 0 * 1 * down e = omega arith in
     let c : m * up e * 1 ≡ 0 = omega arith in
@@ -51,8 +51,8 @@ unfolding ne
 equal_self x p = ap not (is_true (eq x x) (le_antisym x x (le_refl x p) (le_refl x p)))
 
 module _ (x y : Float) (p : is_nan x ≡ false) (q : is_nan y ≡ false) where
-  not-below : lt y x ≡ false → T (le x y)
-  not-below e = subst T (sym (not-false (le x y) (sym (lt_is_not_le y x q p) ∙ e))) tt
+  not_below_lem : lt y x ≡ false → T (le x y)
+  not_below_lem e = subst T (sym (not-false (le x y) (sym (lt_is_not_le y x q p) ∙ e))) tt
 
   pub lesser_le : T (le (lesser_of x y) x) × T (le (lesser_of x y) y)
   unfolding lesser_of
@@ -60,7 +60,7 @@ module _ (x y : Float) (p : is_nan x ≡ false) (q : is_nan y ≡ false) where
     where
       go : (b : Bool) → lt y x ≡ b → T (le (cond b y x) x) × T (le (cond b y x) y)
       go true e = (lt_le y x (subst T (sym e) tt), le_refl y q)
-      go false e = (le_refl x p, not-below e)
+      go false e = (le_refl x p, not_below_lem e)
 
   pub le_greater : T (le x (greater_of x y)) × T (le y (greater_of x y))
   unfolding greater_of
@@ -111,4 +111,4 @@ between_back a b y p q h k =
     go true true e f h k = absurd (lt_not_le a b (subst T (sym f) tt) (lt_le b a (subst T (sym e) tt)))
     go true false e f h k = or_right (le a y && le y b) (le b y && le y a) (and_i (le b y) (le y a) h k)
     go false true e f h k = or_left (le a y && le y b) (le b y && le y a) (and_i (le a y) (le y b) h k)
-    go false false e f h k = or_left (le a y && le y b) (le b y && le y a) (and_i (le a y) (le y b) h (le_trans y a b k (not-below a b p q e)))
+    go false false e f h k = or_left (le a y && le y b) (le b y && le y a) (and_i (le a y) (le y b) h (le_trans y a b k (not_below_lem a b p q e)))

@@ -1,4 +1,6 @@
 // Floats: what the language has no operator for. Every function takes any float.
+#![tactic(auto)]
+
 ghost use Rattle.std.specs.Prelude.{◌≡◌};
 ghost use Rattle.std.specs.Float.{binary64};
 ghost use Rattle.std.specs.Float.Ieee.Scale.{finite};

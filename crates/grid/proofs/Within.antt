@@ -32,13 +32,13 @@ among a (negsuc m) (pos n) f g l h = absurd (false≢true h)
 among (pos m) b (negsuc n) f g l h = absurd (false≢true l)
 among (negsuc m) b (negsuc n) f g l h = let k = leb-true n m l in let s = f.sfits in record { sfits = omega arith }
 
-between-fits : (a b p : ℤ) → SFits w32 a → SFits w32 b → between a b p ≡ true → SFits w32 p
-between-fits a b p f g = either (le_z a p) (le_z p b) (le_z b p) (le_z p a) (among a b p f g) (among b a p g f)
+between_fits : (a b p : ℤ) → SFits w32 a → SFits w32 b → between a b p ≡ true → SFits w32 p
+between_fits a b p f g = either (le_z a p) (le_z p b) (le_z b p) (le_z p a) (among a b p f g) (among b a p g f)
 
-pub box-fits : (ax ay bx by px py : ℤ) → SFits w32 ax → SFits w32 ay → SFits w32 bx → SFits w32 by → in_box ax ay bx by px py ≡ true → SFits w32 px × SFits w32 py
-box-fits ax ay bx by px py fax fay fbx fby box =
+pub box_fits : (ax ay bx by px py : ℤ) → SFits w32 ax → SFits w32 ay → SFits w32 bx → SFits w32 by → in_box ax ay bx by px py ≡ true → SFits w32 px × SFits w32 py
+box_fits ax ay bx by px py fax fay fbx fby box =
     let r = both (between ax bx px) (between ay by py) box in
-    (between-fits ax bx px fax fbx r.0, between-fits ay by py fay fby r.1)
+    (between_fits ax bx px fax fbx r.0, between_fits ay by py fay fby r.1)
 
 -- a coordinate that was widened and handed on is the coordinate
 pub widened : (r z : ℤ) → r ≡ to_z w32 (of_z w32 z) → SFits w32 z → to_z w64 (of_z w64 r) ≡ z

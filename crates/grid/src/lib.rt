@@ -1,4 +1,6 @@
-// The whole-number test of a segment and of a ring, for any i32 ends and any place.
+// The whole_number test of a segment and of a ring, for any i32 ends and any place.
+#![tactic(auto)]
+
 ghost use Rattle.std.specs.Prelude.{◌≡◌, true, cond, ◌+◌, ◌*◌, ◌≤◌, length};
 ghost use Rattle.grid.specs.Grid.{in_box, result_of, grid_result};
 ghost use Rattle.grid.specs.Rings.{grid_inside, grid_ring};

@@ -1,4 +1,6 @@
 // Questions and answers, one a line, in the form of docs/REPLAY.md: what the programs that replay the Rust's answers share.
+#![tactic(auto)]
+
 pub mod fields;
 pub mod print;
 pub mod rings;

@@ -17,7 +17,7 @@ module _ {D : Type 0} (x : D) (Z : Type 0) {W : Type 0} (Rest : Type 0 → Type 
       → beside e x Z Rest z v (rest w) ≡ beside e x Z Rest z' v' (rest w')
       → ◌≡◌ {A = Z × (Last e x × W)} (z, (v, w)) (z', (v', w'))
   one_more unchanged z z' v v' w w' h p = ap (λ o. (o.0, (v, o.1))) (h Z z z' p)
-  one_more (leaves L l S s) z z' v v' w w' h p = λ i. ((p i).0, h (L x) v v' (ap (λ o. o.1) p) i)
+  one_more (leaves L l S s r₀) z z' v v' w w' h p = λ i. ((p i).0, h (L x) v v' (ap (λ o. o.1) p) i)
 
 module _ {n : ℕ} (κs : Lfts n) where
   sees : (ss : List (Slot n)) (ks : Kepts ss) (a : Denots (types_at ss κs)) (Z : Type 0) (z z' : Z) (w w' : Fins κs ss ks a)

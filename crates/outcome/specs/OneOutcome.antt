@@ -12,11 +12,11 @@ use denote.Triple.Clauses.{Ended, Lasts, AtExit, at_exit}
 -- a value `Z` with what a parameter leaves behind it: nothing where the parameter is only read
 abbrev pub Beside : {D : Type 0} (e : Exit D) → D → Type 0 → (Type 0 → Type 0) → Type 0
 Beside unchanged x Z Rest = Rest Z
-Beside (leaves L l S s) x Z Rest = Z × Rest (L x)
+Beside (leaves L l S s r₀) x Z Rest = Z × Rest (L x)
 
 abbrev pub beside : {D : Type 0} (e : Exit D) (x : D) (Z : Type 0) (Rest : Type 0 → Type 0) → Z → Last e x → ((Y : Type 0) → Y → Rest Y) → Beside e x Z Rest
 beside unchanged x Z Rest z w rest = rest Z z
-beside (leaves L l S s) x Z Rest z w rest = (z, rest (L x) w)
+beside (leaves L l S s r₀) x Z Rest z w rest = (z, rest (L x) w)
 
 module _ {n : ℕ} (κs : Lfts n) where
   -- the result, then what each parameter leaves, in the order of the parameters

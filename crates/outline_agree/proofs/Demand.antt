@@ -38,7 +38,7 @@ use Rattle.outline_ask.specs.Inside.{through_rings, float_test, grid_test, asked
 use Rattle.outline_ask.proofs.Queries.{float_finite}
 use Rattle.outline_agree.specs.Plain.{plain_test, in_exterior, grid_in_exterior, plain_asked, plain_inside}
 use Rattle.outline_agree.specs.Own.{OwnIndexes}
-use Rattle.outline_agree.proofs.Rings.{asked_as_scan, ring_nums, rings-same}
+use Rattle.outline_agree.proofs.Rings.{asked_as_scan, ring_nums, rings_same}
 
 module _ (outline : Outline) (sizes : List ℕ) (coords : List ℤ) (nums : I32s coords) (rest : List ℤ) (x : Indexes) (own : OwnIndexes x sizes coords)
     (p : Point) (edge : Bool) where
@@ -52,13 +52,13 @@ module _ (outline : Outline) (sizes : List ℕ) (coords : List ℤ) (nums : I32s
     passed : Passed outline.scale sizes coords
     passed = (sound_outline true outline.scale sizes coords sound).1
 
-    own-box : (k : ℕ) → k < rings sizes → rect_at boxes k ≡ ring_box (wide (ring_of sizes coords k)) (size_at sizes k)
-    own-box k h = rect_in sizes coords nums passed.shaped.counted k h rest
+    own_box : (k : ℕ) → k < rings sizes → rect_at boxes k ≡ ring_box (wide (ring_of sizes coords k)) (size_at sizes k)
+    own_box k h = rect_in sizes coords nums passed.shaped.counted k h rest
 
     float_test_lem : (q : Point) → (finite q.x && finite q.y) ≡ true → (k : ℕ) → k < rings sizes → (e : Bool)
         → float_test sizes coords boxes x q k e ≡ plain_test sizes coords q k e
     float_test_lem q fit k h e =
-        ap (λ (r : Rect). ring_asked x k r (wide (ring_of sizes coords k)) (segments (size_at sizes k)) q e) (own-box k h)
+        ap (λ (r : Rect). ring_asked x k r (wide (ring_of sizes coords k)) (segments (size_at sizes k)) q e) (own_box k h)
         ∙ asked_as_scan x k (ring_of sizes coords k) (size_at sizes k) (ring_sound sizes coords k passed.shaped h)
         (ring_nums sizes coords k passed.shaped.counted h nums) (own k h) q e fit
 
@@ -72,15 +72,15 @@ module _ (outline : Outline) (sizes : List ℕ) (coords : List ℤ) (nums : I32s
           boxes_at sizes coords (rings sizes) 0 3 rest some (omega arith),
         )
 
-    asked-same : (q : Query) → q ≡ scaled_query outline p → asked_at sizes coords boxes x edge q ≡ plain_asked sizes coords edge q
-    asked-same Outside e = refl
-    asked-same (FloatPlace px py) e =
+    asked_same : (q : Query) → q ≡ scaled_query outline p → asked_at sizes coords boxes x edge q ≡ plain_asked sizes coords edge q
+    asked_same Outside e = refl
+    asked_same (FloatPlace px py) e =
         let q : Point = record { x = px; y = py } in
         let some = passed.shaped.counted.some in
-        rings-same (holds (rect_at boxes 0) q) (in_exterior sizes coords q) (float_test sizes coords boxes x q) (plain_test sizes coords q) (rings sizes) edge some
-        (ap (λ (r : Rect). holds r q) (own-box 0 some)) (float_test_lem q (float_finite outline p px py e))
-    asked-same (WholePlace px py) e =
-        rings-same (grid_box_holds boxes 0 px py) (grid_in_exterior sizes coords px py) (grid_test sizes coords px py) (grid_test sizes coords px py) (rings sizes) edge
+        rings_same (holds (rect_at boxes 0) q) (in_exterior sizes coords q) (float_test sizes coords boxes x q) (plain_test sizes coords q) (rings sizes) edge some
+        (ap (λ (r : Rect). holds r q) (own_box 0 some)) (float_test_lem q (float_finite outline p px py e))
+    asked_same (WholePlace px py) e =
+        rings_same (grid_box_holds boxes 0 px py) (grid_in_exterior sizes coords px py) (grid_test sizes coords px py) (grid_test sizes coords px py) (rings sizes) edge
         passed.shaped.counted.some (grid_box px py) (λ k h e. refl)
 
   -- the answer is that of the segments alone, refused or not
@@ -90,7 +90,7 @@ module _ (outline : Outline) (sizes : List ℕ) (coords : List ℤ) (nums : I32s
     where
       go : (c : Checked) → outline_checked outline.scale sizes coords ≡ c
           → when_sound c (asked_at sizes coords boxes x edge (scaled_query outline p)) ≡ when_sound c (plain_asked sizes coords edge (scaled_query outline p))
-      go Sound e = asked-same e (scaled_query outline p) refl
+      go Sound e = asked_same e (scaled_query outline p) refl
       go (Faulty why) e = refl
 
 -- so any two choices of indexes, and any two rooms in which the record stands, give one answer

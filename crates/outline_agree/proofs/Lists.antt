@@ -17,7 +17,7 @@ use Rattle.rings.specs.Checks.{ring_checked}
 use Rattle.rings.specs.Listing.{listed_in, scanned_by, scanned}
 use Rattle.rings.proofs.Checks.{sound_ring}
 use Rattle.stripes_count.specs.Count.{stripe_count}
-use Rattle.stripes_count.proofs.Least.{some-stripes}
+use Rattle.stripes_count.proofs.Least.{some_stripes}
 use Rattle.stripes_index.specs.Index.{list_of as entered}
 use Rattle.stripes_build.specs.Build.{crosses_in}
 use Rattle.stripes_find.specs.Search.{complete, searched as stripesSearched}
@@ -25,7 +25,7 @@ use Rattle.stripes_agree.proofs.Demand.{found_all}
 use Rattle.tree.specs.Tree.{tree_of, packed, ring_box}
 use Rattle.tree.specs.Search.{Found, searched as treeSearched}
 use Rattle.tree.proofs.Searchable.{stored}
-use Rattle.tree.proofs.Demand.{Whole, tree-found, tree_lists}
+use Rattle.tree.proofs.Demand.{Whole, tree_found, tree_lists}
 use Rattle.outline_ring.specs.RingIndex.{Indexes, least_of, height_of, stripes_of, list_of, bytes_of}
 use Rattle.outline_agree.specs.Own.{OwnStripes}
 
@@ -47,21 +47,21 @@ module _ (ring : List ℤ) (points : ℕ) (y : Float) (sound : ring_checked ring
 
   module _ (x : Indexes) (k : ℕ) where
     -- and so do the stripes
-    pub stripes-list : I32s ring → OwnStripes x k (wide ring) (segments points)
+    pub stripes_list : I32s ring → OwnStripes x k (wide ring) (segments points)
         → stripesSearched (wide ring) (segments points) (least_of x.spans k) (height_of x.spans k) (stripes_of x.table x.stripes k) (list_of x.table x.list k) y
         ≡ record { found = meeting (wide ring) points y; ending = complete }
     unfolding meeting
-    stripes-list nums o =
+    stripes_list nums o =
         let n = segments points in
         let a = sound_ring ring points sound in
         rw (o.from, o.tall, o.table, o.numbers, ← (append-nil (entered (crosses_in (wide ring) n) n (stripe_count (wide ring) n))))
-        (found_all ring n (stripe_count (wide ring) n) (omega (arith, a.enough, a.sizes)) nums (omega (arith, some-stripes (wide ring) n)) o.few [] y)
+        (found_all ring n (stripe_count (wide ring) n) (omega (arith, a.enough, a.sizes)) nums (omega (arith, some_stripes (wide ring) n)) o.few [] y)
 
     -- the tree lists it in the order of its nodes
-    pub tree-list : bytes_of x.table x.bytes k ≡ packed (tree_of (wide ring) points)
+    pub tree_list_lem : bytes_of x.table x.bytes k ≡ packed (tree_of (wide ring) points)
         → let found = treeSearched (bytes_of x.table x.bytes k) (wide ring) (segments points) y (ring_box (wide ring) points) in
         Whole found.1 × ((i : ℕ) → count i found.0 ≡ count i (meeting (wide ring) points y))
-    tree-list e =
+    tree_list_lem e =
         let few = (stored ring points).few sound in
         let plain = (stored ring points).plain sound in
-        rw e ((tree-found (wide ring) points y few plain).1, tree_lists (wide ring) points y few plain)
+        rw e ((tree_found (wide ring) points y few plain).1, tree_lists (wide ring) points y few plain)

@@ -31,12 +31,12 @@ use Rattle.tree_find.proofs.Answers.{tested_sound}
 use Rattle.tree_find.proofs.Demand.{tests_as_scan}
 use Rattle.outline_check.specs.Outline.{rings, size_at, start_of, ring_of}
 use Rattle.outline_check.specs.Inner.Counted.{Counted}
-use Rattle.outline_check.proofs.Starts.{part-within, ring-length}
+use Rattle.outline_check.proofs.Starts.{part_within, ring_length}
 use Rattle.outline_ring.specs.RingIndex.{Indexes, has_stripes, has_tree, least_of, height_of, stripes_of, list_of, bytes_of, ring_asked}
 use Rattle.outline_ring.proofs.Ways.{by_stripes_lem, by_tree_lem, by_scan_lem, stripes_read, tree_read}
 use Rattle.outline_ask.specs.Inside.{after_exterior, after_hole, holes_from, through_rings}
 use Rattle.outline_agree.specs.Own.{OwnStripes, OwnIndex}
-use Rattle.outline_agree.proofs.Lists.{stripes-list}
+use Rattle.outline_agree.proofs.Lists.{stripes_list}
 
 -- ---- one ring
 module _ (x : Indexes) (k : ℕ) (ring : List ℤ) (points : ℕ) (sound : ring_checked ring points ≡ Sound) (nums : I32s ring) (own : OwnIndex x k (wide ring) points)
@@ -49,7 +49,7 @@ module _ (x : Indexes) (k : ℕ) (ring : List ℤ) (points : ℕ) (sound : ring_
   stripes_scan : OwnStripes x k (wide ring) (segments points)
       → stripesVerdict (wide ring) p edge (stripesSearched (wide ring) (segments points) (least_of x.spans k) (height_of x.spans k) (stripes_of x.table x.stripes k) (list_of x.table x.list k) p.y)
       ≡ said (scan_of (wide ring) (segments points) p edge)
-  stripes_scan o = ap (stripesVerdict (wide ring) p edge) (stripes-list ring points p.y sound x k nums o) ∙ meeting_scan
+  stripes_scan o = ap (stripesVerdict (wide ring) p edge) (stripes_list ring points p.y sound x k nums o) ∙ meeting_scan
 
   tree_scan : treeVerdict (wide ring) p edge (treeSearched (packed (tree_of (wide ring) points)) (wide ring) (segments points) p.y (ring_box (wide ring) points)) ≡ said (scan_of (wide ring) (segments points) p edge)
   tree_scan =
@@ -79,18 +79,18 @@ unfolding ring_of
 ring_nums sizes coords k s h nums i l =
     let n = 2 * size_at sizes k in
     let at = 2 * start_of sizes k in
-    let m : i < n = omega (arith, ring-length s k h) in
-    rw (get_or-take n (drop at coords) i (pos 0) m ∙ get_or-drop at coords i (pos 0)) (nums (at + i) (omega (arith, part-within s k h)))
+    let m : i < n = omega (arith, ring_length s k h) in
+    rw (get_or-take n (drop at coords) i (pos 0) m ∙ get_or-drop at coords i (pos 0)) (nums (at + i) (omega (arith, part_within s k h)))
 
 -- ---- all rings, by tests that agree
-holes-same : (f g : ℕ → Answer) (m k : ℕ) → ((j : ℕ) → j < k + m → f j ≡ g j) → holes_from f m k ≡ holes_from g m k
+holes_same : (f g : ℕ → Answer) (m k : ℕ) → ((j : ℕ) → j < k + m → f j ≡ g j) → holes_from f m k ≡ holes_from g m k
 unfolding holes_from
-holes-same f g zero k h = refl
-holes-same f g (suc m) k h = ap₂ after_hole (h k (omega arith)) (holes-same f g m (k + 1) (λ j l. h j (omega arith)))
+holes_same f g zero k h = refl
+holes_same f g (suc m) k h = ap₂ after_hole (h k (omega arith)) (holes_same f g m (k + 1) (λ j l. h j (omega arith)))
 
-pub rings-same : (a b : Bool) (f g : ℕ → Bool → Answer) (n : ℕ) (edge : Bool) → 1 ≤ n → a ≡ b → ((k : ℕ) → k < n → (e : Bool) → f k e ≡ g k e)
+pub rings_same : (a b : Bool) (f g : ℕ → Bool → Answer) (n : ℕ) (edge : Bool) → 1 ≤ n → a ≡ b → ((k : ℕ) → k < n → (e : Bool) → f k e ≡ g k e)
     → through_rings a f n edge ≡ through_rings b g n edge
 unfolding through_rings
-rings-same a b f g n edge some e h =
+rings_same a b f g n edge some e h =
     ap₂ (λ (c : Bool) (r : Answer). cond c r No) e
-    (ap₂ after_exterior (h 0 some edge) (holes-same (λ k. f k false) (λ k. g k false) (n - 1) 1 (λ j l. h j (omega arith) false)))
+    (ap₂ after_exterior (h 0 some edge) (holes_same (λ k. f k false) (λ k. g k false) (n - 1) 1 (λ j l. h j (omega arith) false)))

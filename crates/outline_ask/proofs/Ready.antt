@@ -40,7 +40,7 @@ module _ (outline : Outline) (sizes : List ℕ) (coords boxes : List ℤ) (x : I
   unfolding inside_of
   inside_faulty why e = rw (← is, e)
 
-  pub inside-asked : (q : Query) (r : Answer) → outline_with fits outline.scale sizes coords ≡ Sound → q ≡ scaled_query outline p
+  pub inside_asked : (q : Query) (r : Answer) → outline_with fits outline.scale sizes coords ≡ Sound → q ≡ scaled_query outline p
       → r ≡ asked_at sizes coords boxes x edge q → r ≡ inside_of outline sizes coords boxes x p edge
   unfolding inside_of
-  inside-asked q r e s a = rw (← is, e) (a ∙ ap (asked_at sizes coords boxes x edge) s)
+  inside_asked q r e s a = rw (← is, e) (a ∙ ap (asked_at sizes coords boxes x edge) s)

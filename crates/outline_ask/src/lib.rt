@@ -1,4 +1,6 @@
 // The inside question of an outline, in both modes and under both edge rules.
+#![tactic(auto)]
+
 ghost use Rattle.std.specs.Prelude.{◌≡◌, false, ◌-◌, ◌*◌, ◌<◌, ◌≤◌, length};
 ghost use Rattle.outline_check.specs.Outline.{rings, start_of};
 ghost use Rattle.outline_check.specs.Inner.Counted.{Counted};

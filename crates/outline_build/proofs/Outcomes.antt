@@ -80,9 +80,9 @@ module _ (options : BuildOptions) (sizes : List ℕ) (coords : List ℤ) (T : Li
       go false true p q h = no_spans (ltb-true _ _ q)
       go false false p q h = absurd (false≢true h)
 
-  pub holds-first : (ltb (length T) (10 * rings sizes) || ltb (length F) (2 * rings sizes)) ≡ false
+  pub holds_first : (ltb (length T) (10 * rings sizes) || ltb (length F) (2 * rings sizes)) ≡ false
       → (10 * rings sizes ≤ length T) × (2 * rings sizes ≤ length F)
-  holds-first e = go (ltb (length T) (10 * rings sizes)) (ltb (length F) (2 * rings sizes)) refl refl e
+  holds_first e = go (ltb (length T) (10 * rings sizes)) (ltb (length F) (2 * rings sizes)) refl refl e
     where
       go : (x y : Bool) → ltb (length T) (10 * rings sizes) ≡ x → ltb (length F) (2 * rings sizes) ≡ y → (x || y) ≡ false
           → (10 * rings sizes ≤ length T) × (2 * rings sizes ≤ length F)

@@ -25,8 +25,8 @@ use Rattle.outline_index.specs.declared.Gained.TheVariants.{Parts, NoPlace}
 use Rattle.outline_index.specs.Pools.{in_turn, pad_with, every}
 use Rattle.outline_index.specs.Parts.{no_height, stripes_part, list_part, bytes_part, span_part, stripes_in, entries_in, row_of, few_stripes, enough_work}
 use Rattle.outline_index.specs.Inner.Step.{ZeroFrom, behind, row_numbers, stripes_fit, tree_fits, gain_in, Stepped}
-use Rattle.outline_index.proofs.Pools.{turn_more, turn_like, pad_is, pad-none, pad-length, pad_over, used_length, used_zero, used_more, every_more}
-use Rattle.outline_index.proofs.Steps.{stripes-length, step_done, step_short}
+use Rattle.outline_index.proofs.Pools.{turn_more, turn_like, pad_is, pad_none, pad_length, pad_over, used_length, used_zero, used_more, every_more}
+use Rattle.outline_index.proofs.Steps.{stripes_length, step_done, step_short}
 use Rattle.outline_build.specs.Indexes.{stripes_to, list_to, bytes_to, spans_to, row_at, rows_to, calls, roomy}
 use Rattle.outline_build.specs.Inner.Standing.{Zero, Standing, AllBuilt}
 use Rattle.outline_build.proofs.Roomy.{roomy_all, step_lacks}
@@ -39,9 +39,9 @@ turn_next : {A : Type 0} (f : ℕ → List A) (k : ℕ) → in_turn f (k + 1) �
 unfolding in_turn
 turn_next f k = rw add-one
 
-every-none : (t : ℕ → Bool) → every t 0 ≡ true
+every_none : (t : ℕ → Bool) → every t 0 ≡ true
 unfolding every
-every-none t = refl
+every_none t = refl
 
 -- a part of w elements written behind k parts of w elements each, in room that is zero there
 over : {A : Type 0} (z : A) (n k w : ℕ) (f : ℕ → List A) (xs part : List A) → ((j : ℕ) → length (f j) ≡ w) → xs ≡ pad_with z n (in_turn f k) → part ≡ f k
@@ -58,28 +58,28 @@ over {A} z n k w f xs part like is this fits =
 module _ (options : BuildOptions) (sizes : List ℕ) (coords : List ℤ) (T : List ℕ) (F : List Float) (S L B W : List ℕ) where
   none_yet : (n : ℕ) (f : ℕ → List ℕ) (xs : List ℕ) → length xs ≡ n → xs ≡ replicate (length xs) 0 → xs ≡ pad n (in_turn f 0)
   none_yet n f xs l e =
-      e ∙ ap (λ (m : ℕ). replicate m 0) l ∙ sym (pad-none 0 n) ∙ sym (pad_is n []) ∙ ap (pad n) (sym (turn_none f))
+      e ∙ ap (λ (m : ℕ). replicate m 0) l ∙ sym (pad_none 0 n) ∙ sym (pad_is n []) ∙ ap (pad n) (sym (turn_none f))
 
   -- before the first ring
   pub standing_first : Zero T F S L B W → Standing options sizes coords T F S L B W 0 (record { stripes = 0; list = 0; bytes = 0 }) 0 T F S L B W
   standing_first z =
       record {
         start = sym (ap (λ (x : ℕ). 2 * x) (start_none sizes));
-        stripes-at = sym (ap length (turn_none (λ j. stripes_part options (wide (ring_of sizes coords j)) (size_at sizes j))));
+        stripes_at = sym (ap length (turn_none (λ j. stripes_part options (wide (ring_of sizes coords j)) (size_at sizes j))));
         list_at = sym (ap length (turn_none (λ j. list_part options (wide (ring_of sizes coords j)) (size_at sizes j))));
-        bytes-at = sym (ap length (turn_none (λ j. bytes_part options (wide (ring_of sizes coords j)) (size_at sizes j))));
+        bytes_at = sym (ap length (turn_none (λ j. bytes_part options (wide (ring_of sizes coords j)) (size_at sizes j))));
         stripes_fit_of = omega arith;
         list_fit = omega arith;
         bytes_fit = omega arith;
         rows = none_yet (length T) (row_at options sizes coords) T refl z.rows;
         heights =
-            z.heights ∙ sym (pad-none no_height (length F))
+            z.heights ∙ sym (pad_none no_height (length F))
             ∙ ap (pad_with no_height (length F)) (sym (turn_none (λ j. span_part options (wide (ring_of sizes coords j)) (size_at sizes j))));
         pairs = none_yet (length S) (λ j. stripes_part options (wide (ring_of sizes coords j)) (size_at sizes j)) S refl z.pairs;
         entries = none_yet (length L) (λ j. list_part options (wide (ring_of sizes coords j)) (size_at sizes j)) L refl z.entries;
         packed = none_yet (length B) (λ j. bytes_part options (wide (ring_of sizes coords j)) (size_at sizes j)) B refl z.packed;
         numbers = z.numbers;
-        called = every-none (calls options sizes coords W);
+        called = every_none (calls options sizes coords W);
       }
 
   -- what is known between two rings, put to use
@@ -92,22 +92,22 @@ module _ (options : BuildOptions) (sizes : List ℕ) (coords : List ℤ) (T : Li
     points = size_at sizes k
 
     pub stripes_zero : ZeroFrom at.stripes s
-    stripes_zero = used_zero (length S) at.stripes (stripes_to options sizes coords k) s st.pairs st.stripes-at st.stripes_fit_of
+    stripes_zero = used_zero (length S) at.stripes (stripes_to options sizes coords k) s st.pairs st.stripes_at st.stripes_fit_of
 
     pub list_zero : ZeroFrom at.list l
     list_zero = used_zero (length L) at.list (list_to options sizes coords k) l st.entries st.list_at st.list_fit
 
     pub bytes_zero : ZeroFrom at.bytes b
-    bytes_zero = used_zero (length B) at.bytes (bytes_to options sizes coords k) b st.packed st.bytes-at st.bytes_fit
+    bytes_zero = used_zero (length B) at.bytes (bytes_to options sizes coords k) b st.packed st.bytes_at st.bytes_fit
 
-    stripes-long : length s ≡ length S
-    stripes-long = used_length (length S) at.stripes (stripes_to options sizes coords k) s st.pairs st.stripes-at st.stripes_fit_of
+    stripes_long : length s ≡ length S
+    stripes_long = used_length (length S) at.stripes (stripes_to options sizes coords k) s st.pairs st.stripes_at st.stripes_fit_of
 
-    list-long : length l ≡ length L
-    list-long = used_length (length L) at.list (list_to options sizes coords k) l st.entries st.list_at st.list_fit
+    list_long : length l ≡ length L
+    list_long = used_length (length L) at.list (list_to options sizes coords k) l st.entries st.list_at st.list_fit
 
-    bytes-long : length b ≡ length B
-    bytes-long = used_length (length B) at.bytes (bytes_to options sizes coords k) b st.packed st.bytes-at st.bytes_fit
+    bytes_long : length b ≡ length B
+    bytes_long = used_length (length B) at.bytes (bytes_to options sizes coords k) b st.packed st.bytes_at st.bytes_fit
 
     work_same : w ≡ W
     work_same = st.numbers ∙ sym zw
@@ -119,7 +119,7 @@ module _ (options : BuildOptions) (sizes : List ℕ) (coords : List ℤ) (T : Li
     pub standing_short : k < rings sizes → (r : Gained) (s' l' b' w' : List ℕ) → Stepped options ring points fits at s l b w r s' l' b' w' → r ≡ NoPlace
         → roomy T F S L B W options sizes coords ≡ false
     standing_short h r s' l' b' w' e short =
-        step_lacks options sizes coords T F S L B W k h at s l b w st.stripes-at st.list_at st.bytes-at stripes-long list-long bytes-long work_same
+        step_lacks options sizes coords T F S L B W k h at s l b w st.stripes_at st.list_at st.bytes_at stripes_long list_long bytes_long work_same
         (step_short options ring points fits at s l b w r s' l' b' w' e short)
 
     module _ (h : k < rings sizes) (r : Gained) (g : Gain) (s' l' b' w' : List ℕ) (e : Stepped options ring points fits at s l b w r s' l' b' w') (is : r ≡ Parts g) where
@@ -153,7 +153,7 @@ module _ (options : BuildOptions) (sizes : List ℕ) (coords : List ℤ) (T : Li
           let fs : at.stripes + length (stripes_part options ring points) ≤ length s = leb-true _ _ one.1 in
           let fl : at.list + length (list_part options ring points) ≤ length l = leb-true _ _ two.1 in
           let fb : at.bytes + length (bytes_part options ring points) ≤ length b = leb-true _ _ tree.1 in
-          let long = stripes-length options ring points at in
+          let long = stripes_length options ring points at in
           let ts = turn_more (λ j. stripes_part options (wide (ring_of sizes coords j)) (size_at sizes j)) k in
           let tl = turn_more (λ j. list_part options (wide (ring_of sizes coords j)) (size_at sizes j)) k in
           let tb = turn_more (λ j. bytes_part options (wide (ring_of sizes coords j)) (size_at sizes j)) k in
@@ -161,15 +161,15 @@ module _ (options : BuildOptions) (sizes : List ℕ) (coords : List ℤ) (T : Li
             gain = d.1;
             few = one.0;
             enough = ap (enough_work options ring points) (sym work_same) ∙ tree.0;
-            stripes_next = rw add-one (omega (arith, st.stripes-at));
+            stripes_next = rw add-one (omega (arith, st.stripes_at));
             list_next = rw add-one (omega (arith, st.list_at));
-            bytes_next = rw add-one (omega (arith, st.bytes-at));
-            stripes_room = omega (arith, stripes-long);
-            list_room = omega (arith, list-long);
-            bytes_room = omega (arith, bytes-long);
+            bytes_next = rw add-one (omega (arith, st.bytes_at));
+            stripes_room = omega (arith, stripes_long);
+            list_room = omega (arith, list_long);
+            bytes_room = omega (arith, bytes_long);
             pairs =
                 d.2
-                ∙ used_more (length S) at.stripes (stripes_to options sizes coords k) s st.pairs st.stripes-at st.stripes_fit_of (stripes_part options ring points)
+                ∙ used_more (length S) at.stripes (stripes_to options sizes coords k) s st.pairs st.stripes_at st.stripes_fit_of (stripes_part options ring points)
                 ∙ ap (pad (length S)) (sym (turn_next (λ j. stripes_part options (wide (ring_of sizes coords j)) (size_at sizes j)) k));
             entries =
                 d.3
@@ -177,7 +177,7 @@ module _ (options : BuildOptions) (sizes : List ℕ) (coords : List ℤ) (T : Li
                 ∙ ap (pad (length L)) (sym (turn_next (λ j. list_part options (wide (ring_of sizes coords j)) (size_at sizes j)) k));
             packed =
                 d.4
-                ∙ used_more (length B) at.bytes (bytes_to options sizes coords k) b st.packed st.bytes-at st.bytes_fit (bytes_part options ring points)
+                ∙ used_more (length B) at.bytes (bytes_to options sizes coords k) b st.packed st.bytes_at st.bytes_fit (bytes_part options ring points)
                 ∙ ap (pad (length B)) (sym (turn_next (λ j. bytes_part options (wide (ring_of sizes coords j)) (size_at sizes j)) k));
             numbers = d.5 ∙ st.numbers;
           }
@@ -188,9 +188,9 @@ module _ (options : BuildOptions) (sizes : List ℕ) (coords : List ℤ) (T : Li
         row_is : row_numbers (segments points) options at g ≡ row_at options sizes coords k
         row_is =
             ap (row_numbers (segments points) options at) fitting.gain
-            ∙ ap (λ (x : ℕ). row_of options ring points x at.list at.bytes) st.stripes-at
+            ∙ ap (λ (x : ℕ). row_of options ring points x at.list at.bytes) st.stripes_at
             ∙ ap (λ (x : ℕ). row_of options ring points (length (stripes_to options sizes coords k)) x at.bytes) st.list_at
-            ∙ ap (λ (x : ℕ). row_of options ring points (length (stripes_to options sizes coords k)) (length (list_to options sizes coords k)) x) st.bytes-at
+            ∙ ap (λ (x : ℕ). row_of options ring points (length (stripes_to options sizes coords k)) (length (list_to options sizes coords k)) x) st.bytes_at
 
         rows_next : t' ≡ pad (length T) (rows_to options sizes coords (k + 1))
         rows_next =
@@ -200,16 +200,16 @@ module _ (options : BuildOptions) (sizes : List ℕ) (coords : List ℤ) (T : Li
             (take_all 10 (row_numbers (segments points) options at g) (omega arith) ∙ row_is) (omega arith)
             ∙ sym (pad_is (length T) (rows_to options sizes coords (k + 1)))
 
-        spans-long : length f ≡ length F
-        spans-long =
+        spans_long : length f ≡ length F
+        spans_long =
             ap length st.heights
-            ∙ pad-length no_height (length F) (spans_to options sizes coords k)
+            ∙ pad_length no_height (length F) (spans_to options sizes coords k)
             (omega (arith, turn_like (λ j. span_part options (wide (ring_of sizes coords j)) (size_at sizes j)) 2 k (λ j. refl)))
 
         heights_next : f' ≡ pad_with no_height (length F) (spans_to options sizes coords (k + 1))
         heights_next =
             heights
-            ∙ write_eq f (2 * k) (g.least ∷ g.height ∷ []) (omega (arith, spans-long))
+            ∙ write_eq f (2 * k) (g.least ∷ g.height ∷ []) (omega (arith, spans_long))
             ∙ over no_height (length F) k 2 (λ j. span_part options (wide (ring_of sizes coords j)) (size_at sizes j)) f (g.least ∷ g.height ∷ []) (λ j. refl) st.heights
             (ap (λ (x : Gain). x.least ∷ x.height ∷ []) fitting.gain) (omega arith)
 
@@ -220,9 +220,9 @@ module _ (options : BuildOptions) (sizes : List ℕ) (coords : List ℤ) (T : Li
             let i = fitting in
             record {
               start = omega (arith, st.start, start_more sizes k);
-              stripes-at = i.stripes_next;
+              stripes_at = i.stripes_next;
               list_at = i.list_next;
-              bytes-at = i.bytes_next;
+              bytes_at = i.bytes_next;
               stripes_fit_of = i.stripes_room;
               list_fit = i.list_room;
               bytes_fit = i.bytes_room;
@@ -244,9 +244,9 @@ module _ (options : BuildOptions) (sizes : List ℕ) (coords : List ℤ) (T : Li
           roomy_all options sizes coords T F S L B W
               (omega (arith, turn_like (row_at options sizes coords) 10 n (λ j. refl)))
               (omega (arith, turn_like (λ j. span_part options (wide (ring_of sizes coords j)) (size_at sizes j)) 2 n (λ j. refl)))
-              (omega (arith, st.stripes-at, st.stripes_fit_of, ap (λ (j : ℕ). length (stripes_to options sizes coords j)) e))
+              (omega (arith, st.stripes_at, st.stripes_fit_of, ap (λ (j : ℕ). length (stripes_to options sizes coords j)) e))
               (omega (arith, st.list_at, st.list_fit, ap (λ (j : ℕ). length (list_to options sizes coords j)) e))
-              (omega (arith, st.bytes-at, st.bytes_fit, ap (λ (j : ℕ). length (bytes_to options sizes coords j)) e))
+              (omega (arith, st.bytes_at, st.bytes_fit, ap (λ (j : ℕ). length (bytes_to options sizes coords j)) e))
               all,
           st.rows ∙ ap (λ (j : ℕ). pad (length T) (rows_to options sizes coords j)) e,
           st.heights ∙ ap (λ (j : ℕ). pad_with no_height (length F) (spans_to options sizes coords j)) e,

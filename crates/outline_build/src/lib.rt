@@ -1,4 +1,6 @@
 // Builds the indexes of all rings of an outline in lent room, and tells their statistics.
+#![tactic(auto)]
+
 ghost use Rattle.std.specs.Prelude.{◌≡◌, true, ◌+◌, ◌*◌, ◌≤◌, ◌<◌, length, replicate};
 ghost use Rattle.rings.specs.declared.Checked.TheVariants.{Sound};
 ghost use Rattle.outline_check.specs.Outline.{rings};

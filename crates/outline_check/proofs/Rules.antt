@@ -21,9 +21,9 @@ pub then_sound : (first later : Checked) → then_checked first later ≡ Sound 
 then_sound Sound later e = (refl, e)
 then_sound (Faulty why) later e = (cc, cc)
 
-pub holding-then : (t : Bool) (why : Refusal) (first later : Checked) → holding t why (then_checked first later) ≡ then_checked (holding t why first) later
-holding-then true why first later = refl
-holding-then false why first later = refl
+pub holding_then : (t : Bool) (why : Refusal) (first later : Checked) → holding t why (then_checked first later) ≡ then_checked (holding t why first) later
+holding_then true why first later = refl
+holding_then false why first later = refl
 
 module _ (ok : ℕ → Bool) (why : ℕ → Refusal) where
   -- the rule over the rings from k up to n
@@ -68,10 +68,10 @@ module _ (ok : ℕ → Bool) (why : ℕ → Refusal) where
   unfolding for_from
   from_then zero k first later = refl
   from_then (suc n) k first later =
-      ap (holding (ok k) (why k)) (from_then n (k + 1) first later) ∙ holding-then (ok k) (why k) (for_from ok why n (k + 1) first) later
+      ap (holding (ok k) (why k)) (from_then n (k + 1) first later) ∙ holding_then (ok k) (why k) (for_from ok why n (k + 1) first) later
 
-  pub each-then : (n : ℕ) (first later : Checked) → for_each ok why n (then_checked first later) ≡ then_checked (for_each ok why n first) later
-  each-then n first later = from_then n 0 first later
+  pub each_then : (n : ℕ) (first later : Checked) → for_each ok why n (then_checked first later) ≡ then_checked (for_each ok why n first) later
+  each_then n first later = from_then n 0 first later
 
   -- a rule that is passed holds of each ring
   from_sound : (n k : ℕ) (later : Checked) → for_from ok why n k later ≡ Sound → ((j : ℕ) → k ≤ j → j < k + n → ok j ≡ true) × (later ≡ Sound)
@@ -108,6 +108,6 @@ module _ (ok : ℕ → Bool) (why : ℕ → Refusal) where
       (λ (d : k ≡ j → ⊥). let l : k < j = omega (arith, d) in rw (h k (omega arith) l) (from_lowest n (k + 1) later j (omega arith) (omega arith) t (λ i c e. h i (omega arith) e)))
       (eq_or k j)
 
-  pub each-lowest : (n : ℕ) (later : Checked) (j : ℕ) → j < n → ok j ≡ false → ((i : ℕ) → i < j → ok i ≡ true)
+  pub each_lowest : (n : ℕ) (later : Checked) (j : ℕ) → j < n → ok j ≡ false → ((i : ℕ) → i < j → ok i ≡ true)
       → for_each ok why n later ≡ Faulty (why j)
-  each-lowest n later j h t below = from_lowest n 0 later j (omega arith) (omega arith) t (λ i a b. below i b)
+  each_lowest n later j h t below = from_lowest n 0 later j (omega arith) (omega arith) t (λ i a b. below i b)

@@ -18,8 +18,8 @@ use Rattle.rings.proofs.Checks.{both}
 use Rattle.outline_check.specs.Outline.{rings, size_at, start_of, ring_of}
 use Rattle.outline_check.specs.Rules.{for_each, enough, not_over, shut, add_up, sound_scale, shape_with, scale_checked, outline_with}
 use Rattle.outline_check.specs.Inner.Counted.{Counted, counts_checked}
-use Rattle.outline_check.proofs.Rules.{held, then_sound, each_sound, each-then, holding-then}
-use Rattle.outline_check.proofs.Starts.{ring-length, start_small}
+use Rattle.outline_check.proofs.Rules.{held, then_sound, each_sound, each_then, holding_then}
+use Rattle.outline_check.proofs.Starts.{ring_length, start_small}
 
 -- an outline that passes rules 1 to 4
 pub record Shaped (sizes : List ℕ) (coords : List ℤ) : Type 0 where
@@ -38,10 +38,10 @@ counts_then fits sizes coords =
     let two = for_each (not_over sizes) TooMany n Sound in
     let count = holding (not (ltb 64 n)) (TooMany 64) two in
     let one = for_each (enough sizes) TooFew n count in
-    ap (λ (x : Checked). holding (not (ltb n 1)) (TooFew 0) (for_each (enough sizes) TooFew n (holding (not (ltb 64 n)) (TooMany 64) x))) (each-then (not_over sizes) TooMany n Sound later)
-    ∙ ap (λ (x : Checked). holding (not (ltb n 1)) (TooFew 0) (for_each (enough sizes) TooFew n x)) (holding-then (not (ltb 64 n)) (TooMany 64) two later)
-    ∙ ap (holding (not (ltb n 1)) (TooFew 0)) (each-then (enough sizes) TooFew n count later)
-    ∙ holding-then (not (ltb n 1)) (TooFew 0) one later
+    ap (λ (x : Checked). holding (not (ltb n 1)) (TooFew 0) (for_each (enough sizes) TooFew n (holding (not (ltb 64 n)) (TooMany 64) x))) (each_then (not_over sizes) TooMany n Sound later)
+    ∙ ap (λ (x : Checked). holding (not (ltb n 1)) (TooFew 0) (for_each (enough sizes) TooFew n x)) (holding_then (not (ltb 64 n)) (TooMany 64) two later)
+    ∙ ap (holding (not (ltb n 1)) (TooFew 0)) (each_then (enough sizes) TooFew n count later)
+    ∙ holding_then (not (ltb n 1)) (TooFew 0) one later
 
 -- rule 1 of the rings' count, and then the others
 pub counts_step : (sizes : List ℕ) → 1 ≤ rings sizes
@@ -49,7 +49,7 @@ pub counts_step : (sizes : List ℕ) → 1 ≤ rings sizes
     ≡ then_checked (for_each (enough sizes) TooFew (rings sizes) Sound)
     (holding (not (ltb 64 (rings sizes))) (TooMany 64) (for_each (not_over sizes) TooMany (rings sizes) Sound))
 unfolding counts_checked
-counts_step sizes h = rw (le-ltb (rings sizes) 1 h) (each-then (enough sizes) TooFew (rings sizes) Sound _)
+counts_step sizes h = rw (le-ltb (rings sizes) 1 h) (each_then (enough sizes) TooFew (rings sizes) Sound _)
 
 pub counts_none : (sizes : List ℕ) → rings sizes < 1 → counts_checked sizes ≡ Faulty (TooFew 0)
 unfolding counts_checked
@@ -99,7 +99,7 @@ unfolding ring_checked
 ring_sound sizes coords k s h =
     let n = size_at sizes k in
     let r = ring_of sizes coords k in
-    rw (le-ltb n 2 (s.counted.enough k h), le-ltb 4097 n (s.counted.small k h), eq-eqb (n * 2) (length r) (sym (ring-length s.counted k h)), s.shuts k h)
+    rw (le-ltb n 2 (s.counted.enough k h), le-ltb 4097 n (s.counted.small k h), eq-eqb (n * 2) (length r) (sym (ring_length s.counted k h)), s.shuts k h)
 
 -- an outline that passes rules 1 to 5
 pub record Passed (scale : Float) (sizes : List ℕ) (coords : List ℤ) : Type 0 where

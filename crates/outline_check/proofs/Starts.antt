@@ -17,13 +17,13 @@ pub start_more : (sizes : List ℕ) (k : ℕ) → start_of sizes (k + 1) ≡ sta
 unfolding start_of
 start_more sizes k = rw add-one
 
-start-add : (sizes : List ℕ) (k n : ℕ) → start_of sizes k ≤ start_of sizes (k + n)
-start-add sizes k zero = let e : k + 0 ≡ k = omega arith in rw e (omega arith)
-start-add sizes k (suc n) =
-    let e : k + suc n ≡ k + n + 1 = omega arith in rw e (omega (arith, start-add sizes k n, start_more sizes (k + n)))
+start_add : (sizes : List ℕ) (k n : ℕ) → start_of sizes k ≤ start_of sizes (k + n)
+start_add sizes k zero = let e : k + 0 ≡ k = omega arith in rw e (omega arith)
+start_add sizes k (suc n) =
+    let e : k + suc n ≡ k + n + 1 = omega arith in rw e (omega (arith, start_add sizes k n, start_more sizes (k + n)))
 
 pub start_mono : (sizes : List ℕ) (k j : ℕ) → k ≤ j → start_of sizes k ≤ start_of sizes j
-start_mono sizes k j h = let e : k + (j - k) ≡ j = omega arith in rw e at (start-add sizes k (j - k))
+start_mono sizes k j h = let e : k + (j - k) ≡ j = omega arith in rw e at (start_add sizes k (j - k))
 
 -- sizes of at most b each
 pub start_small : (sizes : List ℕ) (b k : ℕ) → ((j : ℕ) → j < k → size_at sizes j ≤ b) → start_of sizes k ≤ b * k
@@ -34,15 +34,15 @@ start_small sizes b (suc k) h =
 
 module _ {sizes : List ℕ} {coords : List ℤ} (s : Counted sizes coords) (k : ℕ) (h : k < rings sizes) where
   -- ring k stands within the coordinates
-  pub part-within : 2 * start_of sizes k + 2 * size_at sizes k ≤ length coords
-  part-within = omega (arith, start_more sizes k, start_mono sizes (k + 1) (rings sizes) (omega arith), s.adds)
+  pub part_within : 2 * start_of sizes k + 2 * size_at sizes k ≤ length coords
+  part_within = omega (arith, start_more sizes k, start_mono sizes (k + 1) (rings sizes) (omega arith), s.adds)
 
-  pub start-within : 2 * start_of sizes (suc k) ≤ length coords
-  start-within = let e : start_of sizes (suc k) ≡ start_of sizes k + size_at sizes k = ap (start_of sizes) (sym (add-one k)) ∙ start_more sizes k in omega (arith, part-within)
+  pub start_within : 2 * start_of sizes (suc k) ≤ length coords
+  start_within = let e : start_of sizes (suc k) ≡ start_of sizes k + size_at sizes k = ap (start_of sizes) (sym (add-one k)) ∙ start_more sizes k in omega (arith, part_within)
 
-  pub ring-length : length (ring_of sizes coords k) ≡ size_at sizes k * 2
+  pub ring_length : length (ring_of sizes coords k) ≡ size_at sizes k * 2
   unfolding ring_of
-  ring-length = simp (length-take, length-drop) (omega (arith, part-within))
+  ring_length = simp (length-take, length-drop) (omega (arith, part_within))
 
 -- a part from where ring k starts to where it ends, as code has it
 pub part_is : (sizes : List ℕ) (coords : List ℤ) (k start end : ℕ) → start ≡ 2 * start_of sizes k → end ≡ start + 2 * size_at sizes k

@@ -1,4 +1,6 @@
 // An outline: rings lent as slices, the exterior first, and how its coordinates are scaled and asked. The rules that an outline keeps.
+#![tactic(auto)]
+
 ghost use Rattle.std.specs.Prelude.{◌≡◌, ◌≤◌, length};
 ghost use Rattle.rings.specs.declared.Checked.TheVariants.{Sound};
 ghost use Rattle.answers.specs.declared.Refusal.TheVariants.{TooFew, TooMany, NotClosed};

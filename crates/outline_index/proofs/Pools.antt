@@ -51,10 +51,10 @@ module _ {A : Type 0} where
 
 module _ {A : Type 0} (z : A) where
   -- a part in what is left of a room
-  pub pad-behind : (at : ℕ) (xs part : List A) → at ≤ length xs
+  pub pad_behind : (at : ℕ) (xs part : List A) → at ≤ length xs
       → take at xs ++ pad_with z (length (drop at xs)) part ≡ pad_with z (length xs) (take at xs ++ part)
   unfolding pad_with
-  pad-behind at xs part h =
+  pad_behind at xs part h =
       let e : length (drop at xs) - length part ≡ length xs - length (take at xs ++ part) =
       omega (arith, length-drop at xs, length-append (take at xs) part, length-take-le at xs h) in
       rw e (sym (append_assoc (take at xs) part _))
@@ -74,13 +74,13 @@ module _ {A : Type 0} (z : A) where
       (ap₂ (λ (u v : List A). u ++ part ++ v) (take-append_seam xs (replicate (n - length xs) z))
       (drop-append-add xs (replicate (n - length xs) z) (length part) ∙ zeros_left (length part) (n - length xs)))
 
-  pub pad-length : (n : ℕ) (xs : List A) → length xs ≤ n → length (pad_with z n xs) ≡ n
+  pub pad_length : (n : ℕ) (xs : List A) → length xs ≤ n → length (pad_with z n xs) ≡ n
   unfolding pad_with
-  pad-length n xs h = omega (arith, length-append xs (replicate (n - length xs) z), length-replicate (n - length xs) z)
+  pad_length n xs h = omega (arith, length-append xs (replicate (n - length xs) z), length-replicate (n - length xs) z)
 
-  pub pad-none : (n : ℕ) → pad_with z n [] ≡ replicate n z
+  pub pad_none : (n : ℕ) → pad_with z n [] ≡ replicate n z
   unfolding pad_with
-  pad-none n = rw sub-zero
+  pad_none n = rw sub-zero
 
   -- the loop that stores zeros, from the first place on
   pub fill_all : (l : List A) → filled z l 0 ≡ replicate (length l) z
@@ -96,22 +96,22 @@ pub pad_is : (n : ℕ) (xs : List ℕ) → pad n xs ≡ pad_with 0 n xs
 unfolding pad pad_with
 pad_is n xs = refl
 
-pub behind-rest : (at : ℕ) (xs part : List ℕ) → at ≤ length xs → take at xs ++ pad (length (drop at xs)) part ≡ behind at xs part
+pub behind_rest : (at : ℕ) (xs part : List ℕ) → at ≤ length xs → take at xs ++ pad (length (drop at xs)) part ≡ behind at xs part
 unfolding pad pad_with
-behind-rest at xs part h = pad-behind 0 at xs part h
+behind_rest at xs part h = pad_behind 0 at xs part h
 
 module _ (at : ℕ) (xs : List ℕ) (zero : ZeroFrom at xs) where
-  pub behind-none : behind at xs [] ≡ xs
-  behind-none = rw append-nil (sym zero.1)
+  pub behind_none : behind at xs [] ≡ xs
+  behind_none = rw append-nil (sym zero.1)
 
   pub rest_zero : take at xs ++ replicate (length (drop at xs)) 0 ≡ xs
   rest_zero =
-      ap (λ (r : List ℕ). take at xs ++ r) (sym (pad-none 0 (length (drop at xs))) ∙ sym (pad_is _ [])) ∙ behind-rest at xs [] zero.0 ∙ behind-none
+      ap (λ (r : List ℕ). take at xs ++ r) (sym (pad_none 0 (length (drop at xs))) ∙ sym (pad_is _ [])) ∙ behind_rest at xs [] zero.0 ∙ behind_none
 
 -- a room of which P is used, up to a place
 module _ (n at : ℕ) (P xs : List ℕ) (is : xs ≡ pad n P) (end : at ≡ length P) (fits : at ≤ n) where
   pub used_length : length xs ≡ n
-  used_length = ap length (is ∙ pad_is n P) ∙ pad-length 0 n P (omega arith)
+  used_length = ap length (is ∙ pad_is n P) ∙ pad_length 0 n P (omega arith)
 
   pub used_front : take at xs ≡ P
   used_front = ap₂ take end (is ∙ pad_is n P) ∙ pad_front 0 n P

@@ -16,7 +16,7 @@ use Rattle.rings.specs.declared.Checked.TheVariants.{Sound}
 use Rattle.rings.specs.Ring.{segments}
 use Rattle.stripes_count.specs.Count.{stripe_count}
 use Rattle.stripes_index.specs.Index.{least_y, height_y, list_of, part_of}
-use Rattle.stripes_index.proofs.Pairs.{pairs-length}
+use Rattle.stripes_index.proofs.Pairs.{pairs_length}
 use Rattle.stripes_build.specs.declared.StripesBuilt.{StripesBuilt}
 use Rattle.stripes_build.specs.declared.StripesBuilt.TheVariants.{Striped, Unstriped, StripesRefused}
 use Rattle.stripes_build.specs.Build as striping
@@ -33,7 +33,7 @@ use Rattle.outline_index.specs.declared.Gained.{Gained}
 use Rattle.outline_index.specs.declared.Gained.TheVariants.{Parts, NoPlace}
 use Rattle.outline_index.specs.Parts.{has_stripes, has_tree, ring_stripes, ring_list, stripes_part, list_part, bytes_part, least_in, height_in, stripes_in, entries_in, fullest_in, few_stripes, enough_work}
 use Rattle.outline_index.specs.Inner.Step.{ZeroFrom, behind, gained, stripes_fit, stripes_answer, stripes_put, tree_fits, tree_answer, tree_put, gain_in, Stepped}
-use Rattle.outline_index.proofs.Pools.{rest_is, rest_back, behind-rest, behind-none, rest_zero, leb_shift}
+use Rattle.outline_index.proofs.Pools.{rest_is, rest_back, behind_rest, behind_none, rest_zero, leb_shift}
 
 -- an answer and two rooms of which the rest was lent
 module _ {A : Type 0} (a b : ℕ) (S L : List ℕ) where
@@ -42,29 +42,29 @@ module _ {A : Type 0} (a b : ℕ) (S L : List ℕ) where
 
 module _ (options : BuildOptions) (ring : ℕ → Float) (points : ℕ) (at : Places) where
   module _ (S L : List ℕ) (zs : ZeroFrom at.stripes S) (zl : ZeroFrom at.list L) where
-    pub stripes-none : has_stripes options (segments points) ≡ false → stripes_put options ring points at S L ≡ (Unstriped, S, L)
+    pub stripes_none : has_stripes options (segments points) ≡ false → stripes_put options ring points at S L ≡ (Unstriped, S, L)
     unfolding stripes_put stripes_part list_part few_stripes
-    stripes-none e =
+    stripes_none e =
         rw (e, le-leb (at.stripes + 0) (length S) (omega arith), le-leb (at.list + 0) (length L) (omega arith))
-        (ap₂ (λ (s l : List ℕ). (Unstriped, s, l)) (behind-none at.stripes S zs) (behind-none at.list L zl))
+        (ap₂ (λ (s l : List ℕ). (Unstriped, s, l)) (behind_none at.stripes S zs) (behind_none at.list L zl))
 
     -- the rest of the rooms is roomy just where the whole is
-    rest-fits : (striping.roomy ring (segments points) (drop at.stripes S) (drop at.list L))
+    rest_fits : (striping.roomy ring (segments points) (drop at.stripes S) (drop at.list L))
         ≡ (leb (stripe_count ring (segments points)) 65536 && leb (at.stripes + length (ring_stripes ring (segments points))) (length S)
         && leb (at.list + length (ring_list ring (segments points))) (length L))
-    rest-fits =
+    rest_fits =
         let m = stripe_count ring (segments points) in
         ap₂ (λ (x y : Bool). leb m 65536 && x && y)
         (ap (leb (m * 2)) (length-drop at.stripes S)
         ∙ leb_shift at.stripes (m * 2) (length S) zs.0
-        ∙ ap (λ (x : ℕ). leb (at.stripes + x) (length S)) (sym (pairs-length _ _ m)))
+        ∙ ap (λ (x : ℕ). leb (at.stripes + x) (length S)) (sym (pairs_length _ _ m)))
         (ap (leb (length (ring_list ring (segments points)))) (length-drop at.list L)
         ∙ leb_shift at.list (length (ring_list ring (segments points))) (length L) zl.0)
 
-    stripes-rest : has_stripes options (segments points) ≡ true
+    stripes_rest : has_stripes options (segments points) ≡ true
         → stripes_put options ring points at S L ≡ put at.stripes at.list S L (striping.indexed ring (segments points) (drop at.stripes S) (drop at.list L))
     unfolding stripes_put stripes_part list_part few_stripes striping.indexed
-    stripes-rest e = rw (e, ← rest-fits) (go (striping.roomy ring (segments points) (drop at.stripes S) (drop at.list L)))
+    stripes_rest e = rw (e, ← rest_fits) (go (striping.roomy ring (segments points) (drop at.stripes S) (drop at.list L)))
       where
         n : ℕ
         n = segments points
@@ -85,15 +85,15 @@ module _ (options : BuildOptions) (ring : ℕ → Float) (points : ℕ) (at : Pl
             (striping.zeroed (StripesRefused NoRoom) (drop at.stripes S) (drop at.list L)))
         go true =
             ap₂ (λ (s l : List ℕ). (Striped (least_y ring n) (height_y ring n) (striping.stats_of ring n), s, l))
-            (sym (behind-rest at.stripes S (ring_stripes ring n) zs.0)) (sym (behind-rest at.list L (ring_list ring n) zl.0))
+            (sym (behind_rest at.stripes S (ring_stripes ring n) zs.0)) (sym (behind_rest at.list L (ring_list ring n) zl.0))
         go false = ap₂ (λ (s l : List ℕ). (StripesRefused NoRoom, s, l)) (sym (rest_zero at.stripes S zs)) (sym (rest_zero at.list L zl))
 
     -- built in the rests, which come back
-    pub stripes-put : (checked : Checked) → has_stripes options (segments points) ≡ true → checked ≡ Sound → (r : StripesBuilt) (s l : List ℕ)
+    pub stripes_put_lem : (checked : Checked) → has_stripes options (segments points) ≡ true → checked ≡ Sound → (r : StripesBuilt) (s l : List ℕ)
         → striping.stripes_built_by checked ring points 0 (take (length S - at.stripes) (drop at.stripes S)) (take (length L - at.list) (drop at.list L)) ≡ (r, s, l)
         → stripes_put options ring points at S L ≡ (r, put_mid at.stripes (length S - at.stripes) S s, put_mid at.list (length L - at.list) L l)
-    stripes-put checked has sound r s l e =
-        stripes-rest has
+    stripes_put_lem checked has sound r s l e =
+        stripes_rest has
         ∙ ap (put at.stripes at.list S L)
         (sym (built_sound checked ring points 0 (drop at.stripes S) (drop at.list L) sound
         ∙ from_reached ring (segments points) 0 (drop at.stripes S) (drop at.list L) (omega arith))
@@ -102,14 +102,14 @@ module _ (options : BuildOptions) (ring : ℕ → Float) (points : ℕ) (at : Pl
         ∙ ap₂ (λ (x y : List ℕ). (r, x, y)) (sym (rest_back at.stripes S s zs.0)) (sym (rest_back at.list L l zl.0))
 
   module _ (B W : List ℕ) (zb : ZeroFrom at.bytes B) (zw : W ≡ replicate (length W) 0) where
-    pub tree-none : has_tree options (segments points) ≡ false → tree_put options ring points at B W ≡ (Unpacked, B, W)
+    pub tree_none : has_tree options (segments points) ≡ false → tree_put options ring points at B W ≡ (Unpacked, B, W)
     unfolding tree_put bytes_part enough_work
-    tree-none e =
-        rw (e, le-leb (at.bytes + 0) (length B) (omega arith)) (ap (λ (b : List ℕ). (Unpacked, b, W)) (behind-none at.bytes B zb))
+    tree_none e =
+        rw (e, le-leb (at.bytes + 0) (length B) (omega arith)) (ap (λ (b : List ℕ). (Unpacked, b, W)) (behind_none at.bytes B zb))
 
-    tree-fits : packing.roomy ring points (drop at.bytes B) W
+    tree_fits_lem : packing.roomy ring points (drop at.bytes B) W
         ≡ (leb (work_numbers ring points) (length W) && leb (at.bytes + length (packing.tree_bytes ring points)) (length B))
-    tree-fits =
+    tree_fits_lem =
         ap (λ (x : Bool). leb (work_numbers ring points) (length W) && x)
         (ap (leb (length (packing.tree_bytes ring points))) (length-drop at.bytes B)
         ∙ leb_shift at.bytes (length (packing.tree_bytes ring points)) (length B) zb.0)
@@ -118,9 +118,9 @@ module _ (options : BuildOptions) (ring : ℕ → Float) (points : ℕ) (at : Pl
     abbrev put_one : packing.Outcome → packing.Outcome
     put_one o = (o.0, take at.bytes B ++ o.1, o.2)
 
-    tree-rest : has_tree options (segments points) ≡ true → tree_put options ring points at B W ≡ put_one (packing.packed_in ring points (drop at.bytes B) W)
+    tree_rest : has_tree options (segments points) ≡ true → tree_put options ring points at B W ≡ put_one (packing.packed_in ring points (drop at.bytes B) W)
     unfolding tree_put bytes_part enough_work packing.packed_in
-    tree-rest e = rw (e, ← tree-fits) (go (packing.roomy ring points (drop at.bytes B) W))
+    tree_rest e = rw (e, ← tree_fits_lem) (go (packing.roomy ring points (drop at.bytes B) W))
       where
         bytes : List ℕ
         bytes = packing.tree_bytes ring points
@@ -130,14 +130,14 @@ module _ (options : BuildOptions) (ring : ℕ → Float) (points : ℕ) (at : Pl
             ≡ put_one
             (cond t (Packed (length bytes), pad (length (drop at.bytes B)) bytes, replicate (length W) 0)
             (packing.zeroed (TreeRefused NoRoom) (drop at.bytes B) W))
-        go true = ap₂ (λ (b w : List ℕ). (Packed (length bytes), b, w)) (sym (behind-rest at.bytes B bytes zb.0)) zw
+        go true = ap₂ (λ (b w : List ℕ). (Packed (length bytes), b, w)) (sym (behind_rest at.bytes B bytes zb.0)) zw
         go false = ap₂ (λ (b w : List ℕ). (TreeRefused NoRoom, b, w)) (sym (rest_zero at.bytes B zb)) zw
 
-    pub tree-put : (checked : Checked) → has_tree options (segments points) ≡ true → checked ≡ Sound → (r : TreeBuilt) (b w : List ℕ)
+    pub tree_put_lem : (checked : Checked) → has_tree options (segments points) ≡ true → checked ≡ Sound → (r : TreeBuilt) (b w : List ℕ)
         → packing.tree_built_by checked ring points 0 (take (length B - at.bytes) (drop at.bytes B)) W ≡ (r, b, w)
         → tree_put options ring points at B W ≡ (r, put_mid at.bytes (length B - at.bytes) B b, w)
-    tree-put checked has sound r b w e =
-        tree-rest has
+    tree_put_lem checked has sound r b w e =
+        tree_rest has
         ∙ ap put_one (sym (built_reached (drop at.bytes B)) ∙ ap (λ (x : List ℕ). packing.tree_built_by checked ring points 0 x W) (sym (rest_is at.bytes B)) ∙ e)
         ∙ ap (λ (x : List ℕ). (r, x, w)) (sym (rest_back at.bytes B b zb.0))
       where
@@ -145,13 +145,13 @@ module _ (options : BuildOptions) (ring : ℕ → Float) (points : ℕ) (at : Pl
         built_reached x = built-sound-tree ring points 0 x W checked sound ∙ from-reached-tree ring points 0 x W (omega arith)
 
   -- two numbers a stripe
-  pub stripes-length : length (stripes_part options ring points) ≡ 2 * stripes_in options ring points
+  pub stripes_length : length (stripes_part options ring points) ≡ 2 * stripes_in options ring points
   unfolding stripes_part stripes_in
-  stripes-length = go (has_stripes options (segments points)) refl
+  stripes_length = go (has_stripes options (segments points)) refl
     where
       go : (h : Bool) → has_stripes options (segments points) ≡ h
           → length (cond (has_stripes options (segments points)) (ring_stripes ring (segments points)) []) ≡ 2 * cond (has_stripes options (segments points)) (stripe_count ring (segments points)) 0
-      go true p = rw p (omega (arith, pairs-length (λ s. length (list_of (striping.crosses_in ring (segments points)) (segments points) s)) (λ s. length (part_of (striping.crosses_in ring (segments points)) (segments points) s)) (stripe_count ring (segments points))))
+      go true p = rw p (omega (arith, pairs_length (λ s. length (list_of (striping.crosses_in ring (segments points)) (segments points) s)) (λ s. length (part_of (striping.crosses_in ring (segments points)) (segments points) s)) (stripe_count ring (segments points))))
       go false p = rw p (omega arith)
 
   -- what the two answers come to

@@ -1,5 +1,7 @@
 // What one ring of an outline gets when indexes are asked for, in the rooms that all rings share. The
 // functions that are not methods are for the crate above, which has checked the rings.
+#![tactic(auto)]
+
 ghost use Rattle.std.specs.Prelude.{◌≡◌, ◌&&◌, [], ◌∷◌, ◌+◌, ◌*◌, ◌≤◌, length, replicate};
 ghost use Rattle.rings.specs.Ring.{wide};
 ghost use Rattle.std.proofs.Math.Seq.{paste};

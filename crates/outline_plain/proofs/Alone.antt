@@ -22,7 +22,7 @@ use Rattle.outline_check.proofs.Sound.{sound_outline}
 use Rattle.outline_record.specs.declared.Made.{Made}
 use Rattle.outline_record.specs.declared.Made.TheVariants.{Rings, Unmade}
 use Rattle.outline_record.specs.Made.{Outcome, recorded, when_passed, boxes_made}
-use Rattle.outline_record.proofs.Pad.{recorded-fits}
+use Rattle.outline_record.proofs.Pad.{recorded_fits}
 use Rattle.outline_ring.specs.RingIndex.{lent}
 use Rattle.outline_ask.specs.Inside.{inside_of}
 use Rattle.outline_ask.specs.Query.{scaled_query}
@@ -43,7 +43,7 @@ module _ (outline : Outline) (sizes : List ℕ) (coords : List ℤ) (boxes : Lis
       go Sound k f =
           let few = (sound_outline true outline.scale sizes coords k).1.shaped.counted.few in
           let fits : 4 * rings sizes ≤ length boxes = omega arith in
-          let clash : Rings (rings sizes) ≡ Unmade why = ap (λ (o : Outcome). o.0) (sym (recorded-fits sizes coords boxes fits) ∙ f) ∙ e in
+          let clash : Rings (rings sizes) ≡ Unmade why = ap (λ (o : Outcome). o.0) (sym (recorded_fits sizes coords boxes fits) ∙ f) ∙ e in
           let z : ◌≡◌ {A = ℕ} 0 1 = cc in
           absurd (omega arith)
 

@@ -1,4 +1,6 @@
 // The inside question by an outline's points alone. It is lent no record and no index, and so believes nothing that it doesn't work out itself.
+#![tactic(auto)]
+
 ghost use Rattle.std.specs.Prelude.{◌≡◌};
 ghost use Rattle.rings.specs.I32s.{I32s};
 ghost use Rattle.outline_agree.specs.Plain.{plain_inside};

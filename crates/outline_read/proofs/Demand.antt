@@ -61,5 +61,5 @@ zeros_own n sp s l b sizes coords k below =
       tree = λ h. absurd (false≢true (sym (ap (λ (m : ℕ). eqb (m / 2 % 2) 1) e) ∙ h));
     }
 
-pub none-own : (sizes : List ℕ) (coords : List ℤ) → OwnIndexes (lent [] [] [] [] []) sizes coords
-none-own = zeros_own 0 [] [] [] []
+pub none_own : (sizes : List ℕ) (coords : List ℤ) → OwnIndexes (lent [] [] [] [] []) sizes coords
+none_own = zeros_own 0 [] [] [] []

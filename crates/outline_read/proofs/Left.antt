@@ -40,9 +40,9 @@ use Rattle.outline_read.proofs.Statistics.{made_stats}
 
 module _ (sizes : List ℕ) (coords : List ℤ) (options : BuildOptions) (table : List ℕ) (spans : List Float) (stripes list bytes work : List ℕ) where
   -- room that suffices has no ring call for too many stripes
-  roomy-few : roomy table spans stripes list bytes work options sizes coords ≡ true
+  roomy_few : roomy table spans stripes list bytes work options sizes coords ≡ true
       → (k : ℕ) → k < rings sizes → few_stripes options (wide (ring_of sizes coords k)) (size_at sizes k) ≡ true
-  roomy-few e k h =
+  roomy_few e k h =
       let enough = roomy_is options sizes coords table spans stripes list bytes work e in
       (both (few_stripes options (wide (ring_of sizes coords k)) (size_at sizes k)) (enough_work options (wide (ring_of sizes coords k)) (size_at sizes k) work)
       (every_one (calls options sizes coords work) k (rings sizes) h enough.called)).0
@@ -103,7 +103,7 @@ module _ (sizes : List ℕ) (coords : List ℤ) (options : BuildOptions) (table 
       own_at : OwnIndex (lent t sp s l b) k (wide (ring_of sizes coords k)) (size_at sizes k)
       own_at =
           subst (λ (x : Indexes). OwnIndex x k (wide (ring_of sizes coords k)) (size_at sizes k)) left.holds
-          (made_own options sizes coords (length table) (length spans) (length stripes) (length list) (length bytes) k below (roomy-few left.enough k below))
+          (made_own options sizes coords (length table) (length spans) (length stripes) (length list) (length bytes) k below (roomy_few left.enough k below))
 
       -- so the ring test through them is the scan's
       pub left_as_scan : I32s coords → (p : Point) (edge : Bool) → (finite p.x && finite p.y) ≡ true

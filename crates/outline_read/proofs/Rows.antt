@@ -15,7 +15,7 @@ use Rattle.room.specs.Room.{pad}
 use Rattle.rings.specs.Ring.{wide, segments}
 use Rattle.stripes_count.specs.Count.{stripe_count}
 use Rattle.stripes_index.specs.Index.{least_y, height_y, part_of, list_of as entriesListed}
-use Rattle.stripes_index.proofs.Pairs.{pairs-length}
+use Rattle.stripes_index.proofs.Pairs.{pairs_length}
 use Rattle.stripes_build.specs.Build.{crosses_in}
 use Rattle.tree.specs.Tree.{tree_of, packed}
 use Rattle.outline_check.specs.Outline.{rings, size_at, ring_of}
@@ -44,20 +44,20 @@ tells_tree false false = refl
 
 -- the parts of one ring
 module _ (options : BuildOptions) (ring : ℕ → Float) (points : ℕ) where
-  stripes-long : 2 * stripes_in options ring points ≡ length (stripes_part options ring points)
+  stripes_long : 2 * stripes_in options ring points ≡ length (stripes_part options ring points)
   unfolding stripes_in stripes_part
-  stripes-long = go (getsStripes options (segments points))
+  stripes_long = go (getsStripes options (segments points))
     where
       n : ℕ
       n = segments points
 
       go : (b : Bool) → 2 * cond b (stripe_count ring n) 0 ≡ length (cond b (ring_stripes ring n) [])
-      go true = omega (arith, pairs-length (λ k. length (entriesListed (crosses_in ring n) n k)) (λ k. length (part_of (crosses_in ring n) n k)) (stripe_count ring n))
+      go true = omega (arith, pairs_length (λ k. length (entriesListed (crosses_in ring n) n k)) (λ k. length (part_of (crosses_in ring n) n k)) (stripe_count ring n))
       go false = refl
 
-  entries-long : entries_in options ring points ≡ length (list_part options ring points)
+  entries_long : entries_in options ring points ≡ length (list_part options ring points)
   unfolding entries_in
-  entries-long = refl
+  entries_long = refl
 
   -- of a ring that gets stripes
   module _ (gets : getsStripes options (segments points) ≡ true) where
@@ -123,14 +123,14 @@ module _ (options : BuildOptions) (sizes : List ℕ) (coords : List ℤ) where
 
     pub reads_stripes : stripes_of (made t sp s l b).table (made t sp s l b).stripes k ≡ stripes_part options (wide (ring_of sizes coords k)) (size_at sizes k)
     reads_stripes =
-        let count = stripes-long options (wide (ring_of sizes coords k)) (size_at sizes k) in
+        let count = stripes_long options (wide (ring_of sizes coords k)) (size_at sizes k) in
         ap₂ (λ (at n : ℕ). part (made t sp s l b).stripes at (2 * n)) (row_number 3 (omega arith)) (row_number 4 (omega arith))
         ∙ ap₂ (λ (xs : List ℕ) (n : ℕ). part xs (length (stripes_to options sizes coords k)) n) (pad_is s (stripes_to options sizes coords (rings sizes))) count
         ∙ pool_part (λ j. stripes_part options (wide (ring_of sizes coords j)) (size_at sizes j)) 0 s k (rings sizes) below
 
     pub reads_list : list_of (made t sp s l b).table (made t sp s l b).list k ≡ list_part options (wide (ring_of sizes coords k)) (size_at sizes k)
     reads_list =
-        let count = entries-long options (wide (ring_of sizes coords k)) (size_at sizes k) in
+        let count = entries_long options (wide (ring_of sizes coords k)) (size_at sizes k) in
         ap₂ (λ (at n : ℕ). part (made t sp s l b).list at n) (row_number 5 (omega arith)) (row_number 6 (omega arith))
         ∙ ap₂ (λ (xs : List ℕ) (n : ℕ). part xs (length (list_to options sizes coords k)) n) (pad_is l (list_to options sizes coords (rings sizes))) count
         ∙ pool_part (λ j. list_part options (wide (ring_of sizes coords j)) (size_at sizes j)) 0 l k (rings sizes) below
@@ -145,14 +145,14 @@ module _ (options : BuildOptions) (sizes : List ℕ) (coords : List ℤ) where
     -- all of them lie in the rooms
     stripes_there : lies (made t sp s l b).stripes (number (made t sp s l b).table k 3) (2 * number (made t sp s l b).table k 4) ≡ true
     stripes_there =
-        let count = stripes-long options (wide (ring_of sizes coords k)) (size_at sizes k) in
+        let count = stripes_long options (wide (ring_of sizes coords k)) (size_at sizes k) in
         ap₂ (λ (at n : ℕ). lies (made t sp s l b).stripes at (2 * n)) (row_number 3 (omega arith)) (row_number 4 (omega arith))
         ∙ ap₂ (λ (xs : List ℕ) (n : ℕ). lies xs (length (stripes_to options sizes coords k)) n) (pad_is s (stripes_to options sizes coords (rings sizes))) count
         ∙ le-leb _ _ (pool_lies (λ j. stripes_part options (wide (ring_of sizes coords j)) (size_at sizes j)) 0 s k (rings sizes) below)
 
     list_there : lies (made t sp s l b).list (number (made t sp s l b).table k 5) (number (made t sp s l b).table k 6) ≡ true
     list_there =
-        let count = entries-long options (wide (ring_of sizes coords k)) (size_at sizes k) in
+        let count = entries_long options (wide (ring_of sizes coords k)) (size_at sizes k) in
         ap₂ (λ (at n : ℕ). lies (made t sp s l b).list at n) (row_number 5 (omega arith)) (row_number 6 (omega arith))
         ∙ ap₂ (λ (xs : List ℕ) (n : ℕ). lies xs (length (list_to options sizes coords k)) n) (pad_is l (list_to options sizes coords (rings sizes))) count
         ∙ le-leb _ _ (pool_lies (λ j. list_part options (wide (ring_of sizes coords j)) (size_at sizes j)) 0 l k (rings sizes) below)

@@ -66,13 +66,13 @@ module _ (f : ℕ → ℤ) where
       go (less h a b) w = (w.0, omega (arith, w.1), a ∙ w.2)
       go (more h a b) w = (suc n, omega arith, a)
 
-  pub least-below : (n i : ℕ) → i ≤ n → le_z (least_z f n) (f i) ≡ true
+  pub least_below : (n i : ℕ) → i ≤ n → le_z (least_z f n) (f i) ≡ true
   unfolding least_z
-  least-below zero i h = let e : i ≡ 0 = omega arith in rw e (same (f 0) (f 0) (f 0))
-  least-below (suc n) i h =
+  least_below zero i h = let e : i ≡ 0 = omega arith in rw e (same (f 0) (f 0) (f 0))
+  least_below (suc n) i h =
       go (chosen (least_z f n) (f (suc n)))
       (⊎_elim
-      (λ (e : i ≡ suc n). inr e) (λ (d : i ≡ suc n → ⊥). let l : i ≤ n = omega (arith, d) in inl (least-below n i l)) (eq_or i (suc n)))
+      (λ (e : i ≡ suc n). inr e) (λ (d : i ≡ suc n → ⊥). let l : i ≤ n = omega (arith, d) in inl (least_below n i l)) (eq_or i (suc n)))
     where
       go : Chosen (least_z f n) (f (suc n)) → (le_z (least_z f n) (f i) ≡ true) ⊎ (i ≡ suc n) → le_z (lesser_z (least_z f n) (f (suc n))) (f i) ≡ true
       go (less h a b) (inl l) = rw a l
@@ -89,13 +89,13 @@ module _ (f : ℕ → ℤ) where
       go (less h a b) w = (suc n, omega arith, b)
       go (more h a b) w = (w.0, omega (arith, w.1), b ∙ w.2)
 
-  pub greatest-above : (n i : ℕ) → i ≤ n → le_z (f i) (greatest_z f n) ≡ true
+  pub greatest_above : (n i : ℕ) → i ≤ n → le_z (f i) (greatest_z f n) ≡ true
   unfolding greatest_z
-  greatest-above zero i h = let e : i ≡ 0 = omega arith in rw e (same (f 0) (f 0) (f 0))
-  greatest-above (suc n) i h =
+  greatest_above zero i h = let e : i ≡ 0 = omega arith in rw e (same (f 0) (f 0) (f 0))
+  greatest_above (suc n) i h =
       go (chosen (greatest_z f n) (f (suc n)))
       (⊎_elim
-      (λ (e : i ≡ suc n). inr e) (λ (d : i ≡ suc n → ⊥). let l : i ≤ n = omega (arith, d) in inl (greatest-above n i l)) (eq_or i (suc n)))
+      (λ (e : i ≡ suc n). inr e) (λ (d : i ≡ suc n → ⊥). let l : i ≤ n = omega (arith, d) in inl (greatest_above n i l)) (eq_or i (suc n)))
     where
       go : Chosen (greatest_z f n) (f (suc n)) → (le_z (f i) (greatest_z f n) ≡ true) ⊎ (i ≡ suc n) → le_z (f i) (greater_z (greatest_z f n) (f (suc n))) ≡ true
       go (less h a b) (inl l) = rw b (le_trans_z (f i) (greatest_z f n) (f (suc n)) l h)

@@ -8,7 +8,7 @@ use native.Mathlib.Nat.{add-zero}
 use lib.ListN.{length, set, length-append}
 use lib.IntN.{ℤ}
 use Rattle.room.specs.Room.{write}
-use Rattle.room.proofs.Write.{write-append}
+use Rattle.room.proofs.Write.{write_append}
 use Rattle.outline_check.specs.Outline.{size_at, ring_of}
 use Rattle.outline_record.specs.Record.{least_z, greatest_z, box_numbers, boxes_to}
 use Rattle.outline_record.proofs.Extremes.{at}
@@ -18,17 +18,17 @@ unfolding boxes_to write
 boxes_none sizes coords out = refl
 
 -- the four stores of a ring's box are one run
-pub box-written : (out ring : List ℤ) (i points : ℕ) {a b c d : ℤ}
+pub box_written : (out ring : List ℤ) (i points : ℕ) {a b c d : ℤ}
     → a ≡ least_z (λ k. at ring 0 k) (points - 1) → b ≡ least_z (λ k. at ring 1 k) (points - 1)
     → c ≡ greatest_z (λ k. at ring 0 k) (points - 1) → d ≡ greatest_z (λ k. at ring 1 k) (points - 1)
     → set (set (set (set out i a) (i + 1) b) (i + 1 + 1) c) (i + 1 + 1 + 1) d ≡ write out i (box_numbers ring points)
 unfolding write box_numbers
-box-written out ring i points p q r s = rw (p, q, r, s) (simp add-zero)
+box_written out ring i points p q r s = rw (p, q, r, s) (simp add-zero)
 
 module _ (sizes : List ℕ) (coords : List ℤ) where
-  pub numbers-length : (ring : List ℤ) (points : ℕ) → length (box_numbers ring points) ≡ 4
+  pub numbers_length : (ring : List ℤ) (points : ℕ) → length (box_numbers ring points) ≡ 4
   unfolding box_numbers
-  numbers-length ring points = refl
+  numbers_length ring points = refl
 
   -- four numbers a ring
   pub boxes_length : (k : ℕ) → length (boxes_to sizes coords k) ≡ 4 * k
@@ -36,7 +36,7 @@ module _ (sizes : List ℕ) (coords : List ℤ) where
   boxes_length zero = refl
   boxes_length (suc k) =
       let b = box_numbers (ring_of sizes coords k) (size_at sizes k) in
-      omega (arith, length-append (boxes_to sizes coords k) b, boxes_length k, numbers-length (ring_of sizes coords k) (size_at sizes k))
+      omega (arith, length-append (boxes_to sizes coords k) b, boxes_length k, numbers_length (ring_of sizes coords k) (size_at sizes k))
 
   -- one ring more
   pub boxes_more : (out : List ℤ) (k : ℕ)
@@ -46,4 +46,4 @@ module _ (sizes : List ℕ) (coords : List ℤ) where
       let b = box_numbers (ring_of sizes coords k) (size_at sizes k) in
       let before = boxes_to sizes coords k in
       let e : 4 * k ≡ 0 + length before = omega (arith, boxes_length k) in
-      rw (add-one, e) (write-append out 0 before b)
+      rw (add-one, e) (write_append out 0 before b)

@@ -34,9 +34,9 @@ module _ (ring : List ℤ) (offset : ℕ) where
   unfolding least_z
   least_next i = rw add-one
 
-  pub greatest-first : get_or ring offset (pos 0) ≡ greatest_z (at ring offset) 0
+  pub greatest_first : get_or ring offset (pos 0) ≡ greatest_z (at ring offset) 0
   unfolding greatest_z
-  greatest-first = first
+  greatest_first = first
 
   pub greatest_next : (i : ℕ) → greater_z (greatest_z (at ring offset) i) (at ring offset (i + 1)) ≡ greatest_z (at ring offset) (i + 1)
   unfolding greatest_z
@@ -81,17 +81,17 @@ module _ (a b : ℤ) (h : Small a) (k : Small b) where
       go false = refl
 
 module _ (f : ℕ → ℤ) where
-  least-small : (n : ℕ) → ((i : ℕ) → i ≤ n → Small (f i)) → Small (least_z f n)
+  least_small : (n : ℕ) → ((i : ℕ) → i ≤ n → Small (f i)) → Small (least_z f n)
   unfolding least_z
-  least-small zero h = h 0 (omega arith)
-  least-small (suc n) h =
-      pick_small (lt_z (least_z f n) (f (suc n))) (least_z f n) (f (suc n)) (least-small n (λ i l. h i (omega arith))) (h (suc n) (omega arith))
+  least_small zero h = h 0 (omega arith)
+  least_small (suc n) h =
+      pick_small (lt_z (least_z f n) (f (suc n))) (least_z f n) (f (suc n)) (least_small n (λ i l. h i (omega arith))) (h (suc n) (omega arith))
 
-  greatest-small : (n : ℕ) → ((i : ℕ) → i ≤ n → Small (f i)) → Small (greatest_z f n)
+  greatest_small : (n : ℕ) → ((i : ℕ) → i ≤ n → Small (f i)) → Small (greatest_z f n)
   unfolding greatest_z
-  greatest-small zero h = h 0 (omega arith)
-  greatest-small (suc n) h =
-      pick_small (lt_z (greatest_z f n) (f (suc n))) (f (suc n)) (greatest_z f n) (h (suc n) (omega arith)) (greatest-small n (λ i l. h i (omega arith)))
+  greatest_small zero h = h 0 (omega arith)
+  greatest_small (suc n) h =
+      pick_small (lt_z (greatest_z f n) (f (suc n))) (f (suc n)) (greatest_z f n) (h (suc n) (omega arith)) (greatest_small n (λ i l. h i (omega arith)))
 
   -- as floats they are the least and the greatest of the floats
   pub least_float : (n : ℕ) → ((i : ℕ) → i ≤ n → Small (f i)) → of_int binary64 (least_z f n) ≡ least (λ i. of_int binary64 (f i)) n
@@ -100,7 +100,7 @@ module _ (f : ℕ → ℤ) where
   least_float (suc n) h =
       let below : (i : ℕ) → i ≤ n → Small (f i) = λ i l. h i (omega arith) in
       let a = least_z f n in let b = f (suc n) in
-      lesser_float a b (least-small n below) (h (suc n) (omega arith))
+      lesser_float a b (least_small n below) (h (suc n) (omega arith))
       ∙ ap (λ (x : Float). lesser_of x (of_int binary64 b)) (least_float n below)
 
   pub greatest_float : (n : ℕ) → ((i : ℕ) → i ≤ n → Small (f i)) → of_int binary64 (greatest_z f n) ≡ greatest (λ i. of_int binary64 (f i)) n
@@ -109,5 +109,5 @@ module _ (f : ℕ → ℤ) where
   greatest_float (suc n) h =
       let below : (i : ℕ) → i ≤ n → Small (f i) = λ i l. h i (omega arith) in
       let a = greatest_z f n in let b = f (suc n) in
-      greater_float a b (greatest-small n below) (h (suc n) (omega arith))
+      greater_float a b (greatest_small n below) (h (suc n) (omega arith))
       ∙ ap (λ (x : Float). greater_of x (of_int binary64 b)) (greatest_float n below)

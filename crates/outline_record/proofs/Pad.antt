@@ -8,7 +8,7 @@ use lib.ListN.{length, take, drop, replicate, length-take}
 use lib.Seq.{take_at}
 use lib.IntN.{ℤ, pos}
 use Rattle.room.specs.Room.{write}
-use Rattle.room.proofs.Write.{write_eq, write-length}
+use Rattle.room.proofs.Write.{write_eq, write_length}
 use Rattle.room.proofs.Fill.{filled}
 use borrow.Author.Tests.{le-leb, lt-leb}
 use Rattle.answers.specs.declared.Refusal.TheVariants.{NoRoom}
@@ -21,13 +21,13 @@ pub pad_filled : (l : List ℤ) (i : ℕ) → pad_z (length l) (take i l) ≡ fi
 unfolding pad_z filled
 pad_filled l i = let e : length l - length (take i l) ≡ length l - i = omega (arith, length-take i l) in rw e
 
-pub pad-none : (l : List ℤ) → pad_z (length l) (take 0 l) ≡ replicate (length l) (pos 0)
+pub pad_none : (l : List ℤ) → pad_z (length l) (take 0 l) ≡ replicate (length l) (pos 0)
 unfolding pad_z
-pad-none l = rw sub-zero
+pad_none l = rw sub-zero
 
 -- a list written at the front, and zeros behind it
-pub pad-written : (l xs : List ℤ) (n : ℕ) → length xs ≡ n → n ≤ length l → pad_z (length l) (take n (write l 0 xs)) ≡ pad_z (length l) xs
-pad-written l xs n e h =
+pub pad_written : (l xs : List ℤ) (n : ℕ) → length xs ≡ n → n ≤ length l → pad_z (length l) (take n (write l 0 xs)) ≡ pad_z (length l) xs
+pad_written l xs n e h =
     ap (pad_z (length l)) (ap (take n) (write_eq l 0 xs (omega arith)) ∙ take_at xs (drop (0 + length xs) l) n e)
 
 -- what stands after the boxes are written and the rest is filled
@@ -35,14 +35,14 @@ pub written_padded : (boxes mid xs : List ℤ) (n : ℕ) → mid ≡ write boxes
     → pad_z (length mid) (take n mid) ≡ pad_z (length boxes) xs
 written_padded boxes mid xs n w e h =
     ap (λ (m : List ℤ). pad_z (length m) (take n m)) w
-    ∙ ap (λ (k : ℕ). pad_z k (take n (write boxes 0 xs))) (write-length boxes 0 xs)
-    ∙ pad-written boxes xs n e h
+    ∙ ap (λ (k : ℕ). pad_z k (take n (write boxes 0 xs))) (write_length boxes 0 xs)
+    ∙ pad_written boxes xs n e h
 
 module _ (sizes : List ℕ) (coords boxes : List ℤ) where
-  pub recorded-fits : 4 * rings sizes ≤ length boxes → recorded sizes coords boxes ≡ (Rings (rings sizes), pad_z (length boxes) (boxes_of sizes coords))
+  pub recorded_fits : 4 * rings sizes ≤ length boxes → recorded sizes coords boxes ≡ (Rings (rings sizes), pad_z (length boxes) (boxes_of sizes coords))
   unfolding recorded
-  recorded-fits h = rw (le-leb (4 * rings sizes) (length boxes) h)
+  recorded_fits h = rw (le-leb (4 * rings sizes) (length boxes) h)
 
-  pub recorded-short : length boxes < 4 * rings sizes → recorded sizes coords boxes ≡ (Unmade NoRoom, replicate (length boxes) (pos 0))
+  pub recorded_short : length boxes < 4 * rings sizes → recorded sizes coords boxes ≡ (Unmade NoRoom, replicate (length boxes) (pos 0))
   unfolding recorded
-  recorded-short h = rw (lt-leb (4 * rings sizes) (length boxes) h)
+  recorded_short h = rw (lt-leb (4 * rings sizes) (length boxes) h)

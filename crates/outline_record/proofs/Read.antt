@@ -21,12 +21,12 @@ use Rattle.tree.specs.Tree.{ring_box}
 use Rattle.outline_check.specs.Outline.{rings, size_at, start_of, ring_of}
 use Rattle.outline_check.specs.Rules.{outline_checked}
 use Rattle.outline_check.specs.Inner.Counted.{Counted}
-use Rattle.outline_check.proofs.Starts.{part-within}
+use Rattle.outline_check.proofs.Starts.{part_within}
 use Rattle.outline_record.specs.Record.{least_z, greatest_z, box_numbers, boxes_to, boxes_of, rect_at, grid_box_holds}
 use Rattle.outline_record.specs.declared.Made.TheVariants.{Rings, Unmade}
 use Rattle.outline_record.specs.Made.{Outcome, pad_z, recorded, when_passed, boxes_made}
-use Rattle.outline_record.proofs.Pad.{recorded-fits, recorded-short}
-use Rattle.outline_record.proofs.Boxes.{boxes_length, numbers-length}
+use Rattle.outline_record.proofs.Pad.{recorded_fits, recorded_short}
+use Rattle.outline_record.proofs.Boxes.{boxes_length, numbers_length}
 use Rattle.outline_record.proofs.Extremes.{least_float, greatest_float}
 
 module _ (sizes : List ℕ) (coords : List ℤ) where
@@ -38,7 +38,7 @@ module _ (sizes : List ℕ) (coords : List ℤ) where
   boxes_at (suc n) k j rest h l =
       let before = boxes_to sizes coords n in
       let b = box_numbers (ring_of sizes coords n) (size_at sizes n) in
-      let four = numbers-length sizes coords (ring_of sizes coords n) (size_at sizes n) in
+      let four = numbers_length sizes coords (ring_of sizes coords n) (size_at sizes n) in
       ap (λ (zs : List ℤ). get_or zs (4 * k + j) (pos 0)) (append_assoc before b rest)
       ∙ ⊎_elim
       (λ (s : k ≡ n).
@@ -51,18 +51,18 @@ module _ (sizes : List ℕ) (coords : List ℤ) where
       (λ (d : k ≡ n → ⊥). let less : k < n = omega (arith, d) in boxes_at n k j (b ++ rest) less l)
       (eq_or k n)
 
-box-same : {a b c d a' b' c' d' : Float} → a ≡ a' → b ≡ b' → c ≡ c' → d ≡ d' → box a b c d ≡ box a' b' c' d'
-box-same p q r s = rw (p, q, r, s)
+box_same : {a b c d a' b' c' d' : Float} → a ≡ a' → b ≡ b' → c ≡ c' → d ≡ d' → box a b c d ≡ box a' b' c' d'
+box_same p q r s = rw (p, q, r, s)
 
 module _ (sizes : List ℕ) (coords : List ℤ) (i32s : I32s coords) (s : Counted sizes coords) (k : ℕ) (h : k < rings sizes) where
   -- a ring's numbers are the outline's
-  ring-at : (i : ℕ) → i < 2 * size_at sizes k → nat_abs (get_or (ring_of sizes coords k) i (pos 0)) ≤ 2 ^ 53
+  ring_at_lem : (i : ℕ) → i < 2 * size_at sizes k → nat_abs (get_or (ring_of sizes coords k) i (pos 0)) ≤ 2 ^ 53
   unfolding ring_of
-  ring-at i l =
+  ring_at_lem i l =
       let at = 2 * start_of sizes k in
       let n = 2 * size_at sizes k in
       let e = get_or-take n (drop at coords) i (pos 0) l ∙ get_or-drop at coords i (pos 0) in
-      rw e (i32_small (get_or coords (at + i) (pos 0)) (i32s (at + i) (omega (arith, part-within s k h))))
+      rw e (i32_small (get_or coords (at + i) (pos 0)) (i32s (at + i) (omega (arith, part_within s k h))))
 
   pub rect_in : (rest : List ℤ) → rect_at (boxes_of sizes coords ++ rest) k ≡ ring_box (wide (ring_of sizes coords k)) (size_at sizes k)
   unfolding ring_box box_numbers
@@ -70,11 +70,11 @@ module _ (sizes : List ℕ) (coords : List ℤ) (i32s : I32s coords) (s : Counte
       let ring = ring_of sizes coords k in
       let last = size_at sizes k - 1 in
       let two = s.enough k h in
-      let xs : (i : ℕ) → i ≤ last → nat_abs (get_or ring (i * 2) (pos 0)) ≤ 2 ^ 53 = λ i l. ring-at (i * 2) (omega arith) in
-      let ys : (i : ℕ) → i ≤ last → nat_abs (get_or ring (i * 2 + 1) (pos 0)) ≤ 2 ^ 53 = λ i l. ring-at (i * 2 + 1) (omega arith) in
+      let xs : (i : ℕ) → i ≤ last → nat_abs (get_or ring (i * 2) (pos 0)) ≤ 2 ^ 53 = λ i l. ring_at_lem (i * 2) (omega arith) in
+      let ys : (i : ℕ) → i ≤ last → nat_abs (get_or ring (i * 2 + 1) (pos 0)) ≤ 2 ^ 53 = λ i l. ring_at_lem (i * 2 + 1) (omega arith) in
       let z : 4 * k ≡ 4 * k + 0 = omega arith in
       let zs = boxes_of sizes coords ++ rest in
-      box-same
+      box_same
       (ap (λ (i : ℕ). of_int binary64 (get_or zs i (pos 0))) z ∙ ap (of_int binary64) (boxes_at sizes coords (rings sizes) k 0 rest h (omega arith)) ∙ least_float (λ i. (point_at ring i).x) last xs)
       (ap (of_int binary64) (boxes_at sizes coords (rings sizes) k 1 rest h (omega arith)) ∙ least_float (λ i. (point_at ring i).y) last ys)
       (ap (of_int binary64) (boxes_at sizes coords (rings sizes) k 2 rest h (omega arith)) ∙ greatest_float (λ i. (point_at ring i).x) last xs)
@@ -84,7 +84,7 @@ module _ (sizes : List ℕ) (coords : List ℤ) (i32s : I32s coords) (s : Counte
   pub rect_of_ring : rect_at (boxes_of sizes coords) k ≡ ring_box (wide (ring_of sizes coords k)) (size_at sizes k)
   rect_of_ring = sym (ap (λ (zs : List ℤ). rect_at zs k) (append-nil (boxes_of sizes coords))) ∙ rect_in []
 
--- the whole-number test of a box asks the least and the greatest
+-- the whole_number test of a box asks the least and the greatest
 pub grid_box_in : (sizes : List ℕ) (coords rest : List ℤ) (k : ℕ) (x y : ℤ) → k < rings sizes
     → let ring = ring_of sizes coords k in let last = size_at sizes k - 1 in
     grid_box_holds (boxes_of sizes coords ++ rest) k x y
@@ -110,9 +110,9 @@ made_record scale sizes coords boxes out n e = go (outline_checked scale sizes c
     go Sound p q =
         ⊎_elim
         (λ (short : length boxes < 4 * rings sizes).
-        let u = (both q (recorded-short sizes coords boxes short)).0 in let z : ◌≡◌ {A = ℕ} 0 1 = cc in absurd (omega arith))
+        let u = (both q (recorded_short sizes coords boxes short)).0 in let z : ◌≡◌ {A = ℕ} 0 1 = cc in absurd (omega arith))
         (λ (fits : 4 * rings sizes ≤ length boxes).
-        let b = both q (recorded-fits sizes coords boxes fits) in
+        let b = both q (recorded_fits sizes coords boxes fits) in
         let u = b.0 in
         let m : n ≡ rings sizes = cc in (p, m, b.1))
         (lt_or (length boxes) (4 * rings sizes))

@@ -1,4 +1,6 @@
 // The record of an outline: the box of each ring, four whole numbers a ring, written once and read by each question.
+#![tactic(auto)]
+
 ghost use Rattle.std.specs.Prelude.{◌≡◌, ◌+◌, ◌*◌, ◌<◌, ◌≤◌, length, take, get_or, pos};
 ghost use Rattle.std.specs.Float.{binary64};
 ghost use Rattle.std.specs.Float.Ieee.{of_int};

@@ -66,8 +66,8 @@ module _ (x : Indexes) (k : ℕ) (box : Rect) (ring : ℕ → Float) (n : ℕ) (
   pub tree_cut : there ≡ false → Refused (Damaged 0) ≡ tree_asked x k box ring n p edge
   tree_cut e = rw (← at-is, ← long-is, ← is, e)
 
-  pub tree-whole : there ≡ true → treeVerdict ring p edge (treeSearched (take (at + long - at) (drop at x.bytes)) ring n p.y box) ≡ tree_asked x k box ring n p edge
-  tree-whole e = let m : at + long - at ≡ long = omega arith in rw (m, ← at-is, ← long-is, ← is, e)
+  pub tree_whole : there ≡ true → treeVerdict ring p edge (treeSearched (take (at + long - at) (drop at x.bytes)) ring n p.y box) ≡ tree_asked x k box ring n p edge
+  tree_whole e = let m : at + long - at ≡ long = omega arith in rw (m, ← at-is, ← long-is, ← is, e)
 
 -- the stripes: two times `count` numbers from `from` on, a list of `entries` from `at` on, and a span
 module _ (x : Indexes) (k : ℕ) (ring : ℕ → Float) (n : ℕ) (p : Point) (edge : Bool) (from count at entries : ℕ) (pairs listed span : Bool)
@@ -84,12 +84,12 @@ module _ (x : Indexes) (k : ℕ) (ring : ℕ → Float) (n : ℕ) (p : Point) (e
       let one = both pairs listed two.0 in
       (leb-true _ _ (sym pairs_is ∙ one.0), leb-true _ _ (sym listed-is ∙ one.1), leb-true _ _ (sym span-is ∙ two.1))
 
-  pub stripes-whole : (pairs && listed && span) ≡ true → (a b : Float)
+  pub stripes_whole : (pairs && listed && span) ≡ true → (a b : Float)
       → stripesVerdict ring p edge
       (stripesSearched ring n (get_or x.spans (2 * k) a) (get_or x.spans (2 * k + 1) b) (take (from + 2 * count - from) (drop from x.stripes))
       (take (at + entries - at) (drop at x.list)) p.y)
       ≡ stripes_asked x k ring n p edge
-  stripes-whole e a b =
+  stripes_whole e a b =
       let l = (stripes_there e).2 in
       let i : from + 2 * count - from ≡ 2 * count = omega arith in
       let j : at + entries - at ≡ entries = omega arith in

@@ -1,4 +1,6 @@
 // The ring test of one ring of an outline, through the index that is lent for it.
+#![tactic(auto)]
+
 ghost use Rattle.std.specs.Prelude.{◌≡◌, ◌+◌, ◌*◌, ◌<◌, ◌≤◌, [], length, get_or, leb};
 ghost use Rattle.rings.specs.Ring.{wide};
 ghost use Rattle.outline_ring.specs.RingIndex.{lent, stripes_asked, tree_asked, ring_asked};

@@ -1,4 +1,5 @@
 // The table of an outline's indexes has a row of ten numbers for each ring: here is which number is which.
+#![tactic(auto)]
 
 // A row is lent as a part of the table, so the type holds nothing but the places in a row.
 #[derive(Drop)]

@@ -14,7 +14,7 @@ use lib.Ieee.Fits.{down_pos, round-fits}
 use lib.Ieee.Exact.{HasValue, round_exact}
 use Rattle.floats.proofs.Least.{rank}
 use Rattle.floats.proofs.Ranks.{Number, lt_is}
-use Rattle.floats.proofs.Ints.{minus, whole-value, of_int_lt, of_int_number}
+use Rattle.floats.proofs.Ints.{minus, whole_value, of_int_lt, of_int_number}
 
 -- ---- the order of two fractions is that of the floats that they are
 under : (u v w z k l : ℕ) → 0 < l → u * k ≡ w * l → v * k ≡ z * l → w < z → u < v
@@ -78,8 +78,8 @@ near (negsuc n) h = omega arith
 pub in_reach : (z : ℤ) → nat_abs z < 2 ^ 52 → nat_abs z ≤ 2 ^ 53
 in_reach z h = omega arith
 
-pub whole-number : (z : ℤ) → nat_abs z < 2 ^ 52 → Number (of_int binary64 z)
-whole-number z h = of_int_number z (in_reach z h)
+pub whole_number : (z : ℤ) → nat_abs z < 2 ^ 52 → Number (of_int binary64 z)
+whole_number z h = of_int_number z (in_reach z h)
 
 above : (z : ℤ) → T (below (minus z) (nat_abs z * 2) (minus z) ((step z * 2 + 1) * 1))
 above (pos n) = lt→ltb (n * 2) ((n * 2 + 1) * 1) (omega arith)
@@ -95,8 +95,8 @@ module _ (z w : ℤ) (Z : nat_abs z < 2 ^ 52) (W : nat_abs w < 2 ^ 52) where
   -- a float stands between
   pub apart : T (lt_z z w) → suc (rank (of_int binary64 z)) < rank (of_int binary64 w)
   apart h =
-      let low = ltb→lt (rank (of_int binary64 z)) (rank (half z)) (rw (← lt_is (of_int binary64 z) (half z) (whole-number z Z) (half_number z Z)) (lt_of_values (of_int binary64 z) (half z) (minus z) (minus z) (nat_abs z) (step z * 2 + 1) 1 2 (whole-value z (in_reach z Z)) (half_value z Z) (above z))) in
-      let high = ltb→lt (rank (half z)) (rank (of_int binary64 w)) (rw (← lt_is (half z) (of_int binary64 w) (half_number z Z) (whole-number w W)) (lt_of_values (half z) (of_int binary64 w) (minus z) (minus w) (step z * 2 + 1) (nat_abs w) 2 1 (half_value z Z) (whole-value w (in_reach w W)) (short z w h))) in
+      let low = ltb→lt (rank (of_int binary64 z)) (rank (half z)) (rw (← lt_is (of_int binary64 z) (half z) (whole_number z Z) (half_number z Z)) (lt_of_values (of_int binary64 z) (half z) (minus z) (minus z) (nat_abs z) (step z * 2 + 1) 1 2 (whole_value z (in_reach z Z)) (half_value z Z) (above z))) in
+      let high = ltb→lt (rank (half z)) (rank (of_int binary64 w)) (rw (← lt_is (half z) (of_int binary64 w) (half_number z Z) (whole_number w W)) (lt_of_values (half z) (of_int binary64 w) (minus z) (minus w) (step z * 2 + 1) (nat_abs w) 2 1 (half_value z Z) (whole_value w (in_reach w W)) (short z w h))) in
       two (rank (of_int binary64 z)) (rank (half z)) (rank (of_int binary64 w)) low high
     where
       two : (i j k : ℕ) → i < j → j < k → suc i < k
@@ -105,7 +105,7 @@ module _ (z w : ℤ) (Z : nat_abs z < 2 ^ 52) (W : nat_abs w < 2 ^ 52) where
   -- so the next float up from one is not the other
   pub not_next : rank (of_int binary64 w) ≡ suc (rank (of_int binary64 z)) → ⊥
   not_next e =
-      let l : T (lt (of_int binary64 z) (of_int binary64 w)) = rw (lt_is (of_int binary64 z) (of_int binary64 w) (whole-number z Z) (whole-number w W)) (lt→ltb (rank (of_int binary64 z)) (rank (of_int binary64 w)) (omega (arith, e))) in
+      let l : T (lt (of_int binary64 z) (of_int binary64 w)) = rw (lt_is (of_int binary64 z) (of_int binary64 w) (whole_number z Z) (whole_number w W)) (lt→ltb (rank (of_int binary64 z)) (rank (of_int binary64 w)) (omega (arith, e))) in
       clash (rank (of_int binary64 z)) (rank (of_int binary64 w)) e (apart (rw (of_int_lt z w (in_reach z Z) (in_reach w W)) at l))
     where
       clash : (i k : ℕ) → k ≡ suc i → suc i < k → ⊥

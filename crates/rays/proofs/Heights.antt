@@ -19,8 +19,8 @@ use Rattle.floats.proofs.Ranks.{Number, lt_is, le_is, eq_is}
 use Rattle.rays.specs.declared.RaycastResult.{RaycastResult}
 use Rattle.rays.specs.declared.RaycastResult.TheVariants.{Neither}
 use Rattle.rays.specs.Raycast.{at, lift, outside, within, quotient, first_steps, last_steps, cast_of, raycast_of}
-use Rattle.rays.proofs.Halves.{near, whole-number}
-use Rattle.rays.proofs.Quotients.{first-finite, second_not_finite}
+use Rattle.rays.proofs.Halves.{near, whole_number}
+use Rattle.rays.proofs.Quotients.{first_finite, second_not_finite}
 
 -- ---- k is not in the closed range of i and j
 or_r : (a b : Bool) → (a || b) ≡ false → b ≡ false
@@ -63,9 +63,9 @@ not_on (fin s m e) (inf t) h k = refl
 not_on (fin s m e) (fin t n d) h k = absurd (true≢false k)
 
 module _ (a b p : Point) (e : eq a.y b.y ≡ true) (f : eq p.y a.y ≡ false) where
-  one-point : (later : RaycastResult) → eq a.x b.x ≡ true → first_steps a b p later ≡ Neither
+  one_point : (later : RaycastResult) → eq a.x b.x ≡ true → first_steps a b p later ≡ Neither
   unfolding first_steps ne
-  one-point later r = simp (e, r, f, and-false)
+  one_point later r = simp (e, r, f, and-false)
 
   not_level : (later : RaycastResult) → eq a.x b.x ≡ false → eq (quotient p.x a.x b.x a.x) (quotient p.y a.y b.y a.y) ≡ false → first_steps a b p later ≡ later
   unfolding first_steps ne
@@ -128,7 +128,7 @@ module _ (a b p : Point) (na : Number a.y) (nb : Number b.y) (np : Number p.y) (
       o = rw (lt_is p.y b.y np nb, lt_is a.y p.y na np) (side (rank b.y) (rank a.y) (rank p.y) i n)
 
       go : (t : Bool) → eq a.x b.x ≡ t → cast_of a b p ≡ Neither
-      go true r = one-point a b p e f (last_steps a b (at p.x (lift a.y b.y p.y))) r
+      go true r = one_point a b p e f (last_steps a b (at p.x (lift a.y b.y p.y))) r
       go false r =
           not_level a b p e f (last_steps a b (at p.x (lift a.y b.y p.y))) r (q r)
           ∙ ap (λ (y : Float). last_steps a b (at p.x y)) (stays a.y b.y p.y f g)
@@ -147,15 +147,15 @@ out_of_range s p z f x y h = go (eq (point_of s.a).y (point_of s.b).y) refl
     bx = near s.b.x z.bx
 
     a-height : Number (point_of s.a).y
-    a-height = whole-number s.a.y (near s.a.y z.ay)
+    a-height = whole_number s.a.y (near s.a.y z.ay)
 
     b-height : Number (point_of s.b).y
-    b-height = whole-number s.b.y (near s.b.y z.by)
+    b-height = whole_number s.b.y (near s.b.y z.by)
 
     go : (t : Bool) → eq (point_of s.a).y (point_of s.b).y ≡ t → raycast_of s p ≡ Neither
     go false e = apart (point_of s.a) (point_of s.b) p a-height b-height y h e
     go true e =
         level (point_of s.a) (point_of s.b) p a-height b-height y h e
         (λ k. not_on (quotient p.x (point_of s.a).x (point_of s.b).x (point_of s.a).x) (quotient p.y (point_of s.a).y (point_of s.b).y (point_of s.a).y)
-        (first-finite s.a.x s.b.x ax bx p.x f x (sym (eq_flip (point_of s.a).x (point_of s.b).x (whole-number s.a.x ax) (whole-number s.b.x bx)) ∙ k))
+        (first_finite s.a.x s.b.x ax bx p.x f x (sym (eq_flip (point_of s.a).x (point_of s.b).x (whole_number s.a.x ax) (whole_number s.b.x bx)) ∙ k))
         (second_not_finite p.y (point_of s.a).y (point_of s.b).y (point_of s.a).y (subst T (sym (sym (eq_flip (point_of s.a).y (point_of s.b).y a-height b-height) ∙ e)) tt)))

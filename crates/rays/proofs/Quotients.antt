@@ -12,12 +12,12 @@ use lib.Ieee.{Float, nan, inf, fin, binary64, unlike, up, down, round, sum, sub,
 use lib.Ieee.Fits.{up_pos, down_pos, and_l, and_r, sub-fits}
 use lib.Ieee.Exact.{HasValue, round_exact}
 use lib.Ieee.Scale.{finite, round_same}
-use Rattle.boxes.proofs.Sizes.{in_format, sum-under, under-finite}
+use Rattle.boxes.proofs.Sizes.{in_format, sum_under, under_finite}
 use Rattle.floats.proofs.Rise.{round_under}
 use Rattle.rays.specs.Raycast.{quotient}
 use Rattle.rays.proofs.Halves.{in_reach}
 use lib.Ieee.Back.{round_whole}
-use Rattle.floats.proofs.Ints.{minus, whole-value, value_eq}
+use Rattle.floats.proofs.Ints.{minus, whole_value, value_eq}
 
 -- ---- the largest finite value, 2 ^ 1024 - 2 ^ 971, and one that rounds to it
 MAX : ℕ
@@ -63,37 +63,37 @@ top_finite = tt
 
 round_finite : (s : Bool) (a c : ℕ) → 0 < c → a ≤ TOP * c → T (finite (round binary64 s a c))
 round_finite s a c C h =
-    under-finite (round binary64 s a c) (round binary64 false TOP 1) (round_under binary64 s false a c TOP 1 C (zero-lt-suc 0) (rw (mul-one a) h)) top_finite
+    under_finite (round binary64 s a c) (round binary64 false TOP 1) (round_under binary64 s false a c TOP 1 C (zero-lt-suc 0) (rw (mul-one a) h)) top_finite
 
 -- ---- a difference
-sum-finite : (s t : Bool) (a b c : ℕ) → 0 < c → a + b ≤ TOP * c → T (finite (sum binary64 s a t b c))
-sum-finite s t a b c C h = under-finite (sum binary64 s a t b c) (round binary64 false TOP 1) (sum-under s t a b c TOP C h) top_finite
+sum_finite : (s t : Bool) (a b c : ℕ) → 0 < c → a + b ≤ TOP * c → T (finite (sum binary64 s a t b c))
+sum_finite s t a b c C h = under_finite (sum binary64 s a t b c) (round binary64 false TOP 1) (sum_under s t a b c TOP C h) top_finite
 
-sub-finite : (x y : Float) (t : Bool) (b : ℕ) → T (fits binary64 x) → T (finite x) → HasValue y t b 1 → b ≤ 2 ^ 53 → T (finite (sub binary64 x y))
+sub_finite : (x y : Float) (t : Bool) (b : ℕ) → T (fits binary64 x) → T (finite x) → HasValue y t b 1 → b ≤ 2 ^ 53 → T (finite (sub binary64 x y))
 unfolding sub TOP
-sub-finite nan y t b f h v k = h
-sub-finite (inf s) y t b f h v k = absurd h
-sub-finite (fin s m e) nan t b f h v k = absurd v
-sub-finite (fin s m e) (inf u) t b f h v k = absurd v
-sub-finite (fin s m e) (fin u n d) t b f h v k =
-    sum-finite s (not u) (m * up e * down d) (n * up d * down e) (down e * down d) (mul-pos (down_pos e) (down_pos d))
+sub_finite nan y t b f h v k = h
+sub_finite (inf s) y t b f h v k = absurd h
+sub_finite (fin s m e) nan t b f h v k = absurd v
+sub_finite (fin s m e) (inf u) t b f h v k = absurd v
+sub_finite (fin s m e) (fin u n d) t b f h v k =
+    sum_finite s (not u) (m * up e * down d) (n * up d * down e) (down e * down d) (mul-pos (down_pos e) (down_pos d))
     (both (m * up e) (down e) (n * up d) (down d) MAX b (2 ^ 53) (at_most s m e f) (sym (mul-one (n * up d)) ∙ v.1) k)
   where
     both : (x e y d p b q : ℕ) → x ≤ p * e → y ≡ b * d → b ≤ q → x * d + y * e ≤ (p + q) * (e * d)
     both x e y d p b q h i j = omega (arith, mul-le-mul_right d h, ap (λ (z : ℕ). z * e) i, mul-le-mul_right (e * d) j)
 
 -- ---- a quotient by what is at least 1 in size
-div-finite : (x y : Float) (t : Bool) (b : ℕ) → T (fits binary64 x) → T (finite x) → HasValue y t b 1 → 0 < b → T (finite (div binary64 x y))
+div_finite : (x y : Float) (t : Bool) (b : ℕ) → T (fits binary64 x) → T (finite x) → HasValue y t b 1 → 0 < b → T (finite (div binary64 x y))
 unfolding div TOP
-div-finite nan y t b f h v k = h
-div-finite (inf s) y t b f h v k = absurd h
-div-finite (fin s m e) nan t b f h v k = absurd v
-div-finite (fin s m e) (inf u) t b f h v k = absurd v
-div-finite (fin s m e) (fin u zero d) t b f h v k = absurd (clash (b * down d) (mul-pos k (down_pos d)) (sym v.1 ∙ mul-one (0 * up d) ∙ zero-mul (up d)))
+div_finite nan y t b f h v k = h
+div_finite (inf s) y t b f h v k = absurd h
+div_finite (fin s m e) nan t b f h v k = absurd v
+div_finite (fin s m e) (inf u) t b f h v k = absurd v
+div_finite (fin s m e) (fin u zero d) t b f h v k = absurd (clash (b * down d) (mul-pos k (down_pos d)) (sym v.1 ∙ mul-one (0 * up d) ∙ zero-mul (up d)))
   where
     clash : (n : ℕ) → 0 < n → n ≡ 0 → ⊥
     clash n p q = omega arith
-div-finite (fin s m e) (fin u (suc n) d) t b f h v k =
+div_finite (fin s m e) (fin u (suc n) d) t b f h v k =
     rw (eqb-suc-zero n)
     (round_finite (unlike s u) (m * up e * down d) (suc n * up d * down e) (mul-pos (mul-pos (zero-lt-suc n) (up_pos d)) (down_pos e))
     (most (m * up e) (down e) (suc n * up d) (down d) MAX b (2 ^ 53) (at_most s m e f) (sym (mul-one (suc n * up d)) ∙ v.1) k))
@@ -157,14 +157,14 @@ whole_sub (fin r m e) (fin u n d) s t a b v w h =
 
 -- ---- step 4
 module _ (a b : ℤ) (A : nat_abs a < 2 ^ 52) (B : nat_abs b < 2 ^ 52) (x : Float) (f : T (fits binary64 x)) (X : T (finite x)) where
-  pub first-finite : eq (of_int binary64 b) (of_int binary64 a) ≡ false → T (finite (quotient x (of_int binary64 a) (of_int binary64 b) (of_int binary64 a)))
-  first-finite h =
-      let va = whole-value a (in_reach a A) in
-      let vb = whole-value b (in_reach b B) in
+  pub first_finite : eq (of_int binary64 b) (of_int binary64 a) ≡ false → T (finite (quotient x (of_int binary64 a) (of_int binary64 b) (of_int binary64 a)))
+  first_finite h =
+      let va = whole_value a (in_reach a A) in
+      let vb = whole_value b (in_reach b B) in
       let d = whole_sub (of_int binary64 b) (of_int binary64 a) (minus b) (minus a) (nat_abs b) (nat_abs a) vb va h in
       let small : d.1 ≤ 2 ^ 53 = omega (arith, d.4) in
-      div-finite (sub binary64 x (of_int binary64 a)) (sub binary64 (of_int binary64 b) (of_int binary64 a)) d.0 d.1 (sub-fits binary64 x (of_int binary64 a))
-      (sub-finite x (of_int binary64 a) (minus a) (nat_abs a) f X va (in_reach a A))
+      div_finite (sub binary64 x (of_int binary64 a)) (sub binary64 (of_int binary64 b) (of_int binary64 a)) d.0 d.1 (sub-fits binary64 x (of_int binary64 a))
+      (sub_finite x (of_int binary64 a) (minus a) (nat_abs a) f X va (in_reach a A))
       (subst (λ (v : Float). HasValue v d.0 d.1 1) (sym d.2) (round_whole binary64 d.0 d.1 small)) d.3
 
 -- ---- the difference of equal values is a zero or a NaN, and no quotient by one is finite

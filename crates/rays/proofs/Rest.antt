@@ -17,7 +17,7 @@ use Rattle.floats.specs.Next.{next_up_of}
 use Rattle.floats.proofs.Parts.{or_split}
 use Rattle.floats.proofs.Least.{rank, eq_rank, next_rank, next_fits}
 use Rattle.floats.proofs.NextUp.{next_up_meets, next_up_only}
-use Rattle.floats.proofs.Ints.{minus, whole-value}
+use Rattle.floats.proofs.Ints.{minus, whole_value}
 use Rattle.rays.specs.declared.RaycastResult.{RaycastResult}
 use Rattle.rays.specs.Raycast.{if◌then◌else◌, at, at_end, lift, Rests, rest, move, first_steps, last_steps, Raycast, raycast_of}
 use Rattle.rays.proofs.Halves.{not_next, in_reach}
@@ -48,7 +48,7 @@ below_top (fin r m e) y s a c v h = tt
 
 -- a height that equals the end z
 at_end_lem : (z : ℤ) → nat_abs z < 2 ^ 52 → (y : Float) → T (fits binary64 y) → T (eq y (of_int binary64 z)) → (rank y ≡ rank (of_int binary64 z)) × T (lt y (inf false))
-at_end_lem z h y f e = (eq_rank y (of_int binary64 z) f (of_int-fits binary64 z) e, below_top y (of_int binary64 z) (minus z) (nat_abs z) 1 (whole-value z (in_reach z h)) e)
+at_end_lem z h y f e = (eq_rank y (of_int binary64 z) f (of_int-fits binary64 z) e, below_top y (of_int binary64 z) (minus z) (nat_abs z) 1 (whole_value z (in_reach z h)) e)
 
 -- is moved to a height that equals no end w
 moved : (z w : ℤ) → nat_abs z < 2 ^ 52 → nat_abs w < 2 ^ 52 → (y : Float) → T (fits binary64 y) → T (eq y (of_int binary64 z)) → T (eq (next_up_of y) (of_int binary64 w)) → ⊥

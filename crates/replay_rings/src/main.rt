@@ -1,5 +1,7 @@
 // Replays questions on lists, stripes, trees and whole outlines, one a line of standard input, and prints
 // one answer a line, which rt holds against the answers that the Rust gave. docs/REPLAY.md has the line form.
+#![tactic(auto)]
+
 mod indexes;
 mod lists;
 mod outlines;

@@ -9,8 +9,8 @@ use Rattle.boxes.specs.declared.I32Point.{I32Point}
 use Rattle.boxes.specs.declared.Segment.{Segment}
 use Rattle.rings.specs.Ring.{point_at, segment_at}
 
-pub segment-ends : (ring : List ℤ) (i : ℕ) → segment_at ring i ≡ record { a = point_at ring i; b = point_at ring (i + 1) }
-segment-ends ring i =
+pub segment_ends : (ring : List ℤ) (i : ℕ) → segment_at ring i ≡ record { a = point_at ring i; b = point_at ring (i + 1) }
+segment_ends ring i =
     let first : i * 2 + 2 ≡ (i + 1) * 2 = omega arith in
     let second : i * 2 + 3 ≡ (i + 1) * 2 + 1 = omega arith in
     ap₂ (λ (j : ℕ) (k : ℕ). record { a = point_at ring i; b = record { x = get_or ring j (pos 0); y = get_or ring k (pos 0) } }) first second

@@ -10,19 +10,19 @@ use Rattle.answers.specs.declared.Refusal.TheVariants.{NoRoom}
 use Rattle.room.specs.Numbers.{up_to}
 use Rattle.room.specs.Room.{write, pad}
 use Rattle.room.proofs.UpTo.{up_to_done, up_to_yes, up_to_no}
-use Rattle.room.proofs.Fill.{room_fits, room_short, write-pad}
+use Rattle.room.proofs.Fill.{room_fits, room_short, write_pad}
 use Rattle.rings.specs.declared.Listed.{Listed}
 use Rattle.rings.specs.declared.Listed.TheVariants.{Count, Unlisted}
 use Rattle.rings.specs.Listing.{Outcome, listed_in}
 
 module _ (xs out : List ℕ) where
-  pub listed-fits : length xs ≤ length out → listed_in xs out ≡ (Count (length xs), pad (length out) xs)
+  pub listed_fits : length xs ≤ length out → listed_in xs out ≡ (Count (length xs), pad (length out) xs)
   unfolding listed_in
-  listed-fits h = rw (le-leb (length xs) (length out) h, room_fits (length out) xs h)
+  listed_fits h = rw (le-leb (length xs) (length out) h, room_fits (length out) xs h)
 
-  pub listed-short : length out < length xs → listed_in xs out ≡ (Unlisted NoRoom, replicate (length out) 0)
+  pub listed_short : length out < length xs → listed_in xs out ≡ (Unlisted NoRoom, replicate (length out) 0)
   unfolding listed_in
-  listed-short h = rw (lt-leb (length xs) (length out) h, room_short (length out) xs h)
+  listed_short h = rw (lt-leb (length xs) (length out) h, room_short (length out) xs h)
 
 module _ (t : ℕ → Bool) (n : ℕ) (out₀ : List ℕ) where
   -- what is still to be listed, written from k on, makes the room what the whole list written into zeros makes it
@@ -48,7 +48,7 @@ module _ (t : ℕ → Bool) (n : ℕ) (out₀ : List ℕ) where
         → listed_in (up_to t n 0) lent ≡ (Unlisted NoRoom, replicate (length out) 0)
     filling_short lent z same h y w =
         let e = up_to_yes t n i h y in
-        listed-short (up_to t n 0) lent (omega (arith, ap length e, same, inv.1, inv.2))
+        listed_short (up_to t n 0) lent (omega (arith, ap length e, same, inv.1, inv.2))
         ∙ ap (λ (m : ℕ). (Unlisted NoRoom, replicate m 0)) (sym (inv.2 ∙ same))
 
     pub filling_done : (lent : List ℕ) → out₀ ≡ replicate (length lent) 0 → length out₀ ≡ length lent → n ≤ i
@@ -59,5 +59,5 @@ module _ (t : ℕ → Bool) (n : ℕ) (out₀ : List ℕ) where
         let e = up_to_done t n i h in
         let count : length all ≡ k = omega (arith, ap length e, inv.1) in
         let fits : length all ≤ length lent = omega (arith, same, inv.4) in
-        let room : pad (length lent) all ≡ out = sym (sym (ap (λ (vs : List ℕ). write out k vs) e) ∙ inv.0 ∙ ap (λ (o : List ℕ). write o 0 all) z ∙ write-pad (length lent) all fits) in
-        listed-fits all lent fits ∙ ap₂ (λ (m : ℕ) (o : List ℕ). (Count m, o)) count room
+        let room : pad (length lent) all ≡ out = sym (sym (ap (λ (vs : List ℕ). write out k vs) e) ∙ inv.0 ∙ ap (λ (o : List ℕ). write o 0 all) z ∙ write_pad (length lent) all fits) in
+        listed_fits all lent fits ∙ ap₂ (λ (m : ℕ) (o : List ℕ). (Count m, o)) count room

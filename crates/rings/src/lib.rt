@@ -1,4 +1,6 @@
 // A ring: its points one after the other, two numbers a point, the first point again at the end.
+#![tactic(auto)]
+
 ghost use Rattle.std.specs.Prelude.{◌≡◌, ◌+◌, ◌*◌, ◌<◌, ◌≤◌, length};
 ghost use Rattle.room.specs.Numbers.{up_to};
 ghost use Rattle.rings.specs.Ring.{wide, segment_at, side_at, holds_height};

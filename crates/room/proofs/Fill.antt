@@ -44,29 +44,29 @@ module _ {A : Type 0} (z : A) where
   pub filling_done : (l₀ : List A) (at : ℕ) (l : List A) (i : ℕ) → length l ≤ i → Filling l₀ at l i → l ≡ filled l₀ at
   filling_done l₀ at l i h f = sym (f.same ∙ filled_done l i h)
 
-  drop-replicate : (k n : ℕ) → drop k (replicate n z) ≡ replicate (n - k) z
-  drop-replicate zero n = rw sub-zero
-  drop-replicate (suc k) zero = rw zero-sub
-  drop-replicate (suc k) (suc n) = rw suc-sub-suc (drop-replicate k n)
+  drop_replicate : (k n : ℕ) → drop k (replicate n z) ≡ replicate (n - k) z
+  drop_replicate zero n = rw sub-zero
+  drop_replicate (suc k) zero = rw zero-sub
+  drop_replicate (suc k) (suc n) = rw suc-sub-suc (drop_replicate k n)
 
 pub pad_filled : (l : List ℕ) (i : ℕ) → pad (length l) (take i l) ≡ filled 0 l i
 unfolding pad filled
 pad_filled l i = let e : length l - length (take i l) ≡ length l - i = omega (arith, length-take i l) in rw e
 
-pub pad-none : (n : ℕ) → pad n [] ≡ replicate n 0
+pub pad_none : (n : ℕ) → pad n [] ≡ replicate n 0
 unfolding pad
-pad-none n = rw sub-zero
+pad_none n = rw sub-zero
 
-pub pad-length : (n : ℕ) (xs : List ℕ) → length xs ≤ n → length (pad n xs) ≡ n
+pub pad_length : (n : ℕ) (xs : List ℕ) → length xs ≤ n → length (pad n xs) ≡ n
 unfolding pad
-pad-length n xs h = simp (length-append, length-replicate) (omega arith)
+pad_length n xs h = simp (length-append, length-replicate) (omega arith)
 
 -- a list written at the front of room full of zeros
-pub write-pad : (n : ℕ) (xs : List ℕ) → length xs ≤ n → write (replicate n 0) 0 xs ≡ pad n xs
+pub write_pad : (n : ℕ) (xs : List ℕ) → length xs ≤ n → write (replicate n 0) 0 xs ≡ pad n xs
 unfolding pad
-write-pad n xs h =
+write_pad n xs h =
     write_eq (replicate n 0) 0 xs (simp length-replicate (omega arith))
-    ∙ ap (λ (r : List ℕ). xs ++ r) (rw zero-add (drop-replicate 0 (length xs) n))
+    ∙ ap (λ (r : List ℕ). xs ++ r) (rw zero-add (drop_replicate 0 (length xs) n))
 
 module _ (n : ℕ) (xs : List ℕ) where
   pub room_fits : length xs ≤ n → room_of n xs ≡ pad n xs

@@ -36,49 +36,49 @@ unfolding up_to
 up_to_ext t u n i h = keep_ext t u (n - i) i (λ k a b. h k a (omega arith))
 
 -- none, where the test holds nowhere
-keep-none : (t : ℕ → Bool) (n i : ℕ) → ((k : ℕ) → i ≤ k → k < i + n → t k ≡ false) → keep t n i ≡ []
+keep_none : (t : ℕ → Bool) (n i : ℕ) → ((k : ℕ) → i ≤ k → k < i + n → t k ≡ false) → keep t n i ≡ []
 unfolding keep
-keep-none t zero i h = refl
-keep-none t (suc n) i h =
+keep_none t zero i h = refl
+keep_none t (suc n) i h =
     ap₂ (λ (b : Bool) (xs : List ℕ). cons_if b i xs) (h i (omega arith) (omega arith))
-    (keep-none t n (i + 1) (λ k a b. h k (omega arith) (omega arith)))
+    (keep_none t n (i + 1) (λ k a b. h k (omega arith) (omega arith)))
 
 pub up_to_none : (t : ℕ → Bool) (n i : ℕ) → ((k : ℕ) → i ≤ k → k < n → t k ≡ false) → up_to t n i ≡ []
 unfolding up_to
-up_to_none t n i h = keep-none t (n - i) i (λ k a b. h k a (omega arith))
+up_to_none t n i h = keep_none t (n - i) i (λ k a b. h k a (omega arith))
 
 -- the numbers up to m, and then those from m on
-cons_if-append : (b : Bool) (x : ℕ) (xs ys : List ℕ) → cons_if b x (xs ++ ys) ≡ cons_if b x xs ++ ys
-cons_if-append true x xs ys = refl
-cons_if-append false x xs ys = refl
+cons_if_append : (b : Bool) (x : ℕ) (xs ys : List ℕ) → cons_if b x (xs ++ ys) ≡ cons_if b x xs ++ ys
+cons_if_append true x xs ys = refl
+cons_if_append false x xs ys = refl
 
-keep-split : (t : ℕ → Bool) (m n i : ℕ) → keep t (m + n) i ≡ keep t m i ++ keep t n (i + m)
+keep_split : (t : ℕ → Bool) (m n i : ℕ) → keep t (m + n) i ≡ keep t m i ++ keep t n (i + m)
 unfolding keep
-keep-split t zero n i = let a : 0 + n ≡ n = omega arith in let b : i + 0 ≡ i = omega arith in rw (a, b)
-keep-split t (suc m) n i =
+keep_split t zero n i = let a : 0 + n ≡ n = omega arith in let b : i + 0 ≡ i = omega arith in rw (a, b)
+keep_split t (suc m) n i =
     let a : suc m + n ≡ suc (m + n) = omega arith in
     let b : i + suc m ≡ i + 1 + m = omega arith in
     rw (a, b)
-    (ap (λ (xs : List ℕ). cons_if (t i) i xs) (keep-split t m n (i + 1))
-    ∙ cons_if-append (t i) i (keep t m (i + 1)) (keep t n (i + 1 + m)))
+    (ap (λ (xs : List ℕ). cons_if (t i) i xs) (keep_split t m n (i + 1))
+    ∙ cons_if_append (t i) i (keep t m (i + 1)) (keep t n (i + 1 + m)))
 
 pub up_to_split : (t : ℕ → Bool) (n m i : ℕ) → i ≤ m → m ≤ n → up_to t n i ≡ up_to t m i ++ up_to t n m
 unfolding up_to
 up_to_split t n m i a b =
     let e : n - i ≡ (m - i) + (n - m) = omega arith in
     let f : i + (m - i) ≡ m = omega arith in
-    rw e (keep-split t (m - i) (n - m) i ∙ ap (λ (k : ℕ). keep t (m - i) i ++ keep t (n - m) k) f)
+    rw e (keep_split t (m - i) (n - m) i ∙ ap (λ (k : ℕ). keep t (m - i) i ++ keep t (n - m) k) f)
 
 -- no more than there are numbers
-cons_if-length : (b : Bool) (x : ℕ) (xs : List ℕ) → length (cons_if b x xs) ≤ suc (length xs)
-cons_if-length true x xs = omega arith
-cons_if-length false x xs = omega arith
+cons_if_length : (b : Bool) (x : ℕ) (xs : List ℕ) → length (cons_if b x xs) ≤ suc (length xs)
+cons_if_length true x xs = omega arith
+cons_if_length false x xs = omega arith
 
-keep-length : (t : ℕ → Bool) (n i : ℕ) → length (keep t n i) ≤ n
+keep_length : (t : ℕ → Bool) (n i : ℕ) → length (keep t n i) ≤ n
 unfolding keep
-keep-length t zero i = omega arith
-keep-length t (suc n) i = omega (arith, cons_if-length (t i) i (keep t n (i + 1)), keep-length t n (i + 1))
+keep_length t zero i = omega arith
+keep_length t (suc n) i = omega (arith, cons_if_length (t i) i (keep t n (i + 1)), keep_length t n (i + 1))
 
 pub up_to_length : (t : ℕ → Bool) (n i : ℕ) → length (up_to t n i) ≤ n - i
 unfolding up_to
-up_to_length t n i = keep-length t (n - i) i
+up_to_length t n i = keep_length t (n - i) i

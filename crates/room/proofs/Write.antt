@@ -9,10 +9,10 @@ use lib.Seq.{get_or-set_other, sets, sets-eq}
 use Rattle.room.specs.Room.{write}
 
 module _ {A : Type 0} where
-  pub write-length : (l : List A) (i : ℕ) (vs : List A) → length (write l i vs) ≡ length l
+  pub write_length : (l : List A) (i : ℕ) (vs : List A) → length (write l i vs) ≡ length l
   unfolding write
-  write-length l i [] = refl
-  write-length l i (v ∷ vs) = write-length (set l i v) (i + 1) vs ∙ length-set l i v
+  write_length l i [] = refl
+  write_length l i (v ∷ vs) = write_length (set l i v) (i + 1) vs ∙ length-set l i v
 
   -- what stands before the place stays
   pub write_before : (l : List A) (i k : ℕ) (vs : List A) (d : A) → k < i → get_or (write l i vs) k d ≡ get_or l k d
@@ -32,9 +32,9 @@ module _ {A : Type 0} where
   write_eq l i vs h = write_sets l i vs ∙ sets-eq vs l i h
 
   -- one run after the other is one run
-  pub write-append : (l : List A) (i : ℕ) (us vs : List A)
+  pub write_append : (l : List A) (i : ℕ) (us vs : List A)
       → write (write l i us) (i + length us) vs ≡ write l i (us ++ vs)
   unfolding write
-  write-append l i [] vs = let e : i + 0 ≡ i = omega arith in rw e
-  write-append l i (u ∷ us) vs =
-      let e : i + suc (length us) ≡ i + 1 + length us = omega arith in rw e (write-append (set l i u) (i + 1) us vs)
+  write_append l i [] vs = let e : i + 0 ≡ i = omega arith in rw e
+  write_append l i (u ∷ us) vs =
+      let e : i + suc (length us) ≡ i + 1 + length us = omega arith in rw e (write_append (set l i u) (i + 1) us vs)

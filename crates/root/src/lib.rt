@@ -1,4 +1,6 @@
 // The square root of IEEE 754, worked out over whole numbers.
+#![tactic(auto)]
+
 ghost use Rattle.std.specs.Prelude.{◌≡◌, ◌+◌, ◌*◌, ◌^◌, ◌≤◌, ◌<◌};
 ghost use Rattle.std.specs.Float.{binary64};
 ghost use Rattle.root.specs.SquareRoot.{SquareRoot};

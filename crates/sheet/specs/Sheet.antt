@@ -40,15 +40,15 @@ abbrev pub H : List ℤ
 H = S ++ (pos 2 ∷ pos 2 ∷ pos 8 ∷ pos 2 ∷ pos 8 ∷ pos 8 ∷ pos 2 ∷ pos 8 ∷ pos 2 ∷ pos 2 ∷ [])
 
 -- "S reversed"
-abbrev pub S-reversed : List ℤ
-S-reversed = pos 0 ∷ pos 0 ∷ pos 0 ∷ pos 10 ∷ pos 10 ∷ pos 10 ∷ pos 10 ∷ pos 0 ∷ pos 0 ∷ pos 0 ∷ []
+abbrev pub S_reversed : List ℤ
+S_reversed = pos 0 ∷ pos 0 ∷ pos 0 ∷ pos 10 ∷ pos 10 ∷ pos 10 ∷ pos 10 ∷ pos 0 ∷ pos 0 ∷ pos 0 ∷ []
 
 -- "(0,0) (5,5) (0,0)", and "one point repeated"
 abbrev pub to_and_fro : List ℤ
 to_and_fro = pos 0 ∷ pos 0 ∷ pos 5 ∷ pos 5 ∷ pos 0 ∷ pos 0 ∷ []
 
-abbrev pub one-point : List ℤ
-one-point = pos 7 ∷ negsuc 2 ∷ pos 7 ∷ negsuc 2 ∷ pos 7 ∷ negsuc 2 ∷ pos 7 ∷ negsuc 2 ∷ []
+abbrev pub one_point : List ℤ
+one_point = pos 7 ∷ negsuc 2 ∷ pos 7 ∷ negsuc 2 ∷ pos 7 ∷ negsuc 2 ∷ pos 7 ∷ negsuc 2 ∷ []
 
 -- a ring of five points, and two of them
 abbrev pub one : List ℕ
@@ -96,7 +96,7 @@ pub record SampleSheet : Type 0 where
   -- "Lists in S: y 0 gives 0,1,3; y 10 gives 1,2,3; y -1 none."
   pub list_at_0 : (room : List ℕ) → length room ≡ 4 → scanned S 5 (whole (pos 0)) room ≡ (Count 3, 0 ∷ 1 ∷ 3 ∷ 0 ∷ [])
   pub list_at_10 : (room : List ℕ) → length room ≡ 4 → scanned S 5 (whole (pos 10)) room ≡ (Count 3, 1 ∷ 2 ∷ 3 ∷ 0 ∷ [])
-  pub list-below : (room : List ℕ) → length room ≡ 4 → scanned S 5 (whole (negsuc 0)) room ≡ (Count 0, 0 ∷ 0 ∷ 0 ∷ 0 ∷ [])
+  pub list_below : (room : List ℕ) → length room ≡ 4 → scanned S 5 (whole (negsuc 0)) room ≡ (Count 0, 0 ∷ 0 ∷ 0 ∷ 0 ∷ [])
   -- "S packs to 04 00 01 01 01 00.": built from any threshold that its four segments reach, in the ten work numbers that one node and four segments call for
   pub packs : (threshold : ℕ) → threshold ≤ 4 → (bytes work : List ℕ) → length bytes ≡ 8 → length work ≡ 10
       → tree_built S 5 threshold bytes work ≡ (Packed 6, 0x04 ∷ 0x00 ∷ 0x01 ∷ 0x01 ∷ 0x01 ∷ 0x00 ∷ 0 ∷ 0 ∷ [], replicate 10 0)
@@ -105,10 +105,10 @@ pub record SampleSheet : Type 0 where
   pub eighty_nought : read_uvarint 64 (0x80 ∷ 0x00 ∷ []) 0 ≡ Unread (Loose 0)
   -- "S is anticlockwise, S reversed clockwise; (0,0) (5,5) (0,0) and one point repeated have no turn."
   pub turns : turned S 5 ≡ Turns Anticlockwise
-  pub backwards : reversed S 5 ≡ S-reversed
-  pub turns_back : turned S-reversed 5 ≡ Turns Clockwise
+  pub backwards : reversed S 5 ≡ S_reversed
+  pub turns_back : turned S_reversed 5 ≡ Turns Clockwise
   pub flat : turned to_and_fro 3 ≡ Turns None
-  pub still : turned one-point 4 ≡ Turns None
+  pub still : turned one_point 4 ≡ Turns None
   -- "Stripe of 5, 10 with least 0, height 10, 32 stripes: 16, 31."
   pub stripe_of_5 : stripe_of (whole (pos 5)) (whole (pos 0)) (whole (pos 10)) 32 ≡ 16
   pub stripe_of_10 : stripe_of (whole (pos 10)) (whole (pos 0)) (whole (pos 10)) 32 ≡ 31

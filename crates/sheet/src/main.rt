@@ -1,4 +1,6 @@
 // 01's sample sheet, the cases that are run and not proved: each line is a case and what the library says.
+#![tactic(auto)]
+
 mod limits;
 mod print;
 mod trees;

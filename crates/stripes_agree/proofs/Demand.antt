@@ -18,17 +18,17 @@ use Rattle.rings.specs.Checks.{ring_checked}
 use Rattle.rings.specs.declared.Checked.TheVariants.{Sound}
 use Rattle.rings.proofs.Checks.{sound_ring}
 use Rattle.stripes_count.specs.Count.{stripe_count}
-use Rattle.stripes_count.proofs.Least.{some-stripes}
+use Rattle.stripes_count.proofs.Least.{some_stripes}
 use Rattle.stripes_build.specs.declared.StripesStats.{StripesStats}
 use Rattle.stripes_build.specs.declared.StripesBuilt.TheVariants.{Striped}
 use Rattle.stripes_index.specs.Index.{part_of, list_of, table_of, least_y, height_y, crosses}
 use Rattle.stripes_build.specs.Build.{crosses_in, stripes_built}
-use Rattle.stripes_index.proofs.Pairs.{pairs-length}
+use Rattle.stripes_index.proofs.Pairs.{pairs_length}
 use Rattle.stripes_build.proofs.Building.{Indexed, built_is}
 use Rattle.stripes_find.specs.Search.{Reading, complete, searched}
 use Rattle.stripes_find.specs.Listing.{poured, stripes_listed}
 use Rattle.stripes_find.proofs.Pouring.{listed_sound}
-use Rattle.stripes_agree.proofs.Outside.{coordinates, not-out}
+use Rattle.stripes_agree.proofs.Outside.{coordinates, not_out}
 use Rattle.stripes_agree.proofs.Law.{found_by}
 
 meeting_is : (ring : ℕ → Float) (points : ℕ) (y : Float) → meeting ring points y ≡ up_to (λ i. holds_height (side_at ring i) y) (segments points) 0
@@ -42,7 +42,7 @@ module _ (ring : List ℤ) (n m : ℕ) (long : n * 2 + 2 ≤ length ring) (nums 
 
   pub found_all : searched (wide ring) n (least_y (wide ring) n) (height_y (wide ring) n) (table_of cross n m) (list_of cross n m ++ rest) y
       ≡ record { found = up_to (λ i. holds_height (side_at (wide ring) i) y) n 0; ending = complete }
-  found_all = found_by (wide ring) n m (coordinates ring n long nums y) some few rest y _ (not-out ring n long nums y)
+  found_all = found_by (wide ring) n m (coordinates ring n long nums y) some few rest y _ (not_out ring n long nums y)
 
 -- ---- in the used part of the room that building filled
 pad_used : (n : ℕ) (xs : List ℕ) (k : ℕ) → length xs ≡ k → take k (pad n xs) ≡ xs
@@ -64,13 +64,13 @@ module _ (ring : List ℤ) (points threshold : ℕ) (nums : I32s ring) (stripes 
       let cross = crosses_in (wide ring) n in
       let t : take (stats.stripes * 2) s ≡ table_of cross n m =
       ap₂ (λ (c : StripesStats) (x : List ℕ). take (c.stripes * 2) x) b.counts b.table
-      ∙ pad_used (length stripes) (table_of cross n m) (m * 2) (pairs-length (λ k. length (list_of cross n k)) (λ k. length (part_of cross n k)) m) in
+      ∙ pad_used (length stripes) (table_of cross n m) (m * 2) (pairs_length (λ k. length (list_of cross n k)) (λ k. length (part_of cross n k)) m) in
       let u : take stats.entries l ≡ list_of cross n m ++ [] =
       ap₂ (λ (c : StripesStats) (x : List ℕ). take c.entries x) b.counts b.numbers
       ∙ pad_used (length list) (list_of cross n m) (length (list_of cross n m)) refl
       ∙ sym (append-nil (list_of cross n m)) in
       rw (t, u, b.from, b.tall)
-      (found_all ring n m (omega (arith, a.enough, a.sizes)) nums (omega (arith, some-stripes (wide ring) n)) b.few [] y
+      (found_all ring n m (omega (arith, a.enough, a.sizes)) nums (omega (arith, some_stripes (wide ring) n)) b.few [] y
       ∙ ap (λ (xs : List ℕ). record { found = xs; ending = complete }) (sym (meeting_is (wide ring) points y)))
 
   -- so the listing call lists them, in any room that takes them

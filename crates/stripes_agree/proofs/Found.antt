@@ -17,7 +17,7 @@ use Rattle.stripes_place.proofs.Mono.{stripe_below}
 use Rattle.stripes_index.specs.Joined.{joined}
 use Rattle.stripes_index.specs.Index.{part_of, list_of, table_of}
 use Rattle.stripes_index.proofs.Joined.{joined_rises, joined_get}
-use Rattle.stripes_index.proofs.Pairs.{pairs-length}
+use Rattle.stripes_index.proofs.Pairs.{pairs_length}
 use Rattle.stripes_find.specs.Search.{Reading, Ending, complete, found_in, end_in, read_stripe}
 
 -- ---- of numbers by rising number, all below n, the found are those that meet both tests
@@ -27,16 +27,16 @@ module _ (n : ℕ) (t meets : ℕ → Bool) where
   both true x xs h = rw (lt-ltb x n h)
   both false x xs h = refl
 
-  found-keep : (k i : ℕ) → i + k ≤ n → found_in n meets (keep t k i) ≡ keep (λ j. t j && meets j) k i
+  found_keep : (k i : ℕ) → i + k ≤ n → found_in n meets (keep t k i) ≡ keep (λ j. t j && meets j) k i
   unfolding keep found_in
-  found-keep zero i h = refl
-  found-keep (suc k) i h =
+  found_keep zero i h = refl
+  found_keep (suc k) i h =
       both (t i) i (keep t k (i + 1)) (omega arith)
-      ∙ ap (λ (xs : List ℕ). cons_if (t i && meets i) i xs) (found-keep k (i + 1) (omega arith))
+      ∙ ap (λ (xs : List ℕ). cons_if (t i && meets i) i xs) (found_keep k (i + 1) (omega arith))
 
   pub found_up_to : found_in n meets (up_to t n 0) ≡ up_to (λ j. t j && meets j) n 0
   unfolding up_to
-  found_up_to = found-keep (n - 0) 0 (omega arith)
+  found_up_to = found_keep (n - 0) 0 (omega arith)
 
   end_cons : (a : Bool) (at x : ℕ) (xs : List ℕ) → x < n → ((b : ℕ) → end_in n b xs ≡ complete) → end_in n at (cons_if a x xs) ≡ complete
   unfolding end_in
@@ -72,23 +72,23 @@ joined_slice f (suc m) s rest h =
 -- ---- an index as built, whatever stands behind its list
 module _ (cross : ℕ → ℕ → Bool) (n m : ℕ) (some : 0 < m) (few : m < 2 ^ 64) (rest : List ℕ) (meets : ℕ → Bool) (least height y : Float) where
   halves : length (table_of cross n m) / 2 ≡ m
-  halves = omega (arith, pairs-length (λ s. length (list_of cross n s)) (λ s. length (part_of cross n s)) m)
+  halves = omega (arith, pairs_length (λ s. length (list_of cross n s)) (λ s. length (part_of cross n s)) m)
 
   module _ (s : ℕ) (h : s < m) where
     start_is : get_or (table_of cross n m) (s * 2) 0 ≡ length (list_of cross n s)
     start_is =
-        let e : length (table_of cross n s) + 0 ≡ s * 2 = omega (arith, pairs-length (λ s. length (list_of cross n s)) (λ s. length (part_of cross n s)) s) in
+        let e : length (table_of cross n s) + 0 ≡ s * 2 = omega (arith, pairs_length (λ s. length (list_of cross n s)) (λ s. length (part_of cross n s)) s) in
         ap (λ (i : ℕ). get_or (table_of cross n m) i 0) (sym e)
         ∙ joined_get (λ s. length (list_of cross n s) ∷ length (part_of cross n s) ∷ []) s 0 (omega arith) m h
 
     count_is : get_or (table_of cross n m) (s * 2 + 1) 0 ≡ length (part_of cross n s)
     count_is =
-        let e : length (table_of cross n s) + 1 ≡ s * 2 + 1 = omega (arith, pairs-length (λ s. length (list_of cross n s)) (λ s. length (part_of cross n s)) s) in
+        let e : length (table_of cross n s) + 1 ≡ s * 2 + 1 = omega (arith, pairs_length (λ s. length (list_of cross n s)) (λ s. length (part_of cross n s)) s) in
         ap (λ (i : ℕ). get_or (table_of cross n m) i 0) (sym e)
         ∙ joined_get (λ s. length (list_of cross n s) ∷ length (part_of cross n s) ∷ []) s 1 (omega arith) m h
 
-    part-inside : length (list_of cross n s) + length (part_of cross n s) ≤ length (list_of cross n m ++ rest)
-    part-inside = omega (arith, joined_rises (part_of cross n) m s h, length-append (list_of cross n m) rest)
+    part_inside : length (list_of cross n s) + length (part_of cross n s) ≤ length (list_of cross n m ++ rest)
+    part_inside = omega (arith, joined_rises (part_of cross n) m s h, length-append (list_of cross n m) rest)
 
   pub built_reads : read_stripe n meets least height (table_of cross n m) (list_of cross n m ++ rest) y
       ≡ record { found = up_to (λ i. cross (stripe_of y least height m) i && meets i) n 0; ending = complete }
@@ -101,7 +101,7 @@ module _ (cross : ℕ → ℕ → Bool) (n m : ℕ) (some : 0 < m) (few : m < 2 
         ne_eqb m 0 (λ e. omega arith),
         start_is s h,
         count_is s h,
-        le-ltb (length (list_of cross n m ++ rest)) (length (list_of cross n s) + length (part_of cross n s)) (part-inside s h),
+        le-ltb (length (list_of cross n m ++ rest)) (length (list_of cross n s) + length (part_of cross n s)) (part_inside s h),
         joined_slice (part_of cross n) m s rest h,
       )
       (ap₂ (λ (xs : List ℕ) (e : Ending). record { found = xs; ending = e }) (found_up_to n (cross s) meets) (end_up_to n (cross s) meets (length (list_of cross n s))))

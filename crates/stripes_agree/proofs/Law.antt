@@ -14,8 +14,8 @@ use Rattle.rings.specs.Ring.{side_at, holds_height}
 use Rattle.stripes_place.specs.Stripe.{stripe_of}
 use Rattle.stripes_place.proofs.Mono.{stripe_mono}
 use Rattle.stripes_index.specs.Index.{list_of, table_of, low_end, high_end, least_y, greatest_y, height_y, crosses}
-use Rattle.stripes_index.proofs.Crossing.{crosses-at}
-use Rattle.stripes_index.proofs.Ends.{holds-between, holds-within, least-finite, height-tall}
+use Rattle.stripes_index.proofs.Crossing.{crosses_at}
+use Rattle.stripes_index.proofs.Ends.{holds_between, holds_within, least_finite, height_tall}
 use Rattle.stripes_find.specs.Search.{complete, searched_by}
 use Rattle.stripes_agree.proofs.Found.{built_reads}
 
@@ -42,10 +42,10 @@ module _ (ring : ℕ → Float) (n m : ℕ) (nums : (k : ℕ) → k < n * 2 + 2 
   -- a segment whose range holds y crosses y's stripe
   crossed : (i : ℕ) → i < n → holds_height (side_at ring i) y ≡ true → cross (stripe_of y (least_y ring n) (height_y ring n) m) i ≡ true
   crossed i h e =
-      let r = holds-between ring n nums i y h e in
-      crosses-at ring (least_y ring n) (height_y ring n) m (stripe_of y (least_y ring n) (height_y ring n) m) i
-      (stripe_mono (low_end ring i) y (least_y ring n) (height_y ring n) m (least-finite ring n nums) (height-tall ring n nums) some (omega arith) r.0)
-      (stripe_mono y (high_end ring i) (least_y ring n) (height_y ring n) m (least-finite ring n nums) (height-tall ring n nums) some (omega arith) r.1)
+      let r = holds_between ring n nums i y h e in
+      crosses_at ring (least_y ring n) (height_y ring n) m (stripe_of y (least_y ring n) (height_y ring n) m) i
+      (stripe_mono (low_end ring i) y (least_y ring n) (height_y ring n) m (least_finite ring n nums) (height_tall ring n nums) some (omega arith) r.0)
+      (stripe_mono y (high_end ring i) (least_y ring n) (height_y ring n) m (least_finite ring n nums) (height_tall ring n nums) some (omega arith) r.1)
 
   -- the search of them finds the segments whose own range holds y
   pub found_by : searched_by out ring n (least_y ring n) (height_y ring n) (table_of cross n m) (list_of cross n m ++ rest) y
@@ -59,7 +59,7 @@ module _ (ring : ℕ → Float) (n m : ℕ) (nums : (k : ℕ) → k < n * 2 + 2 
           by_out out true ring n _ _ _ _ y e
           ∙ ap (λ (xs : List ℕ). record { found = xs; ending = complete })
           (sym (up_to_none (λ i. holds_height (side_at ring i) y) n 0 (λ i a h. false_or (holds_height (side_at ring i) y)
-          (λ w. let r = holds-within ring n nums i y h w in true≢false (sym e ∙ inside r.0 r.1)))))
+          (λ w. let r = holds_within ring n nums i y h w in true≢false (sym e ∙ inside r.0 r.1)))))
       go false e =
           by_out out false ring n _ _ _ _ y e
           ∙ built_reads cross n m some (omega arith) rest (λ i. holds_height (side_at ring i) y) (least_y ring n) (height_y ring n) y

@@ -75,8 +75,8 @@ module _ (zs : List ℤ) (n : ℕ) (long : n * 2 + 2 ≤ length zs) (nums : I32s
   no_height_lem : eq (height_y (wide zs) n) (of_bits binary64 0) ≡ eqb span.tall 0
   no_height_lem = value_eq false span.tall false 0 (height_y (wide zs) n) (of_bits binary64 0) span.height zero_value ∙ and-true (eqb span.tall 0)
 
-  pub not-out : T (le least y) → T (le y greatest) → outside y least (height_y (wide zs) n) ≡ false
-  not-out low high = rw (no_height_lem, span.top) (go (eqb span.tall 0) refl)
+  pub not_out : T (le least y) → T (le y greatest) → outside y least (height_y (wide zs) n) ≡ false
+  not_out low high = rw (no_height_lem, span.top) (go (eqb span.tall 0) refl)
     where
       go : (b : Bool) → eqb span.tall 0 ≡ b → cond b (ne y least) (lt y least || lt greatest y) ≡ false
       go true w = same_ne y least (subst (λ (x : Float). T (le y x)) (sym (span.flat (eqb-true span.tall 0 w))) high) low

@@ -16,7 +16,7 @@ use lib.Ieee.Exact.{HasValue}
 use lib.Ieee.Back.{round_whole, whole_unique}
 use lib.Ieee.Scale.{round_same}
 use Rattle.room.proofs.Cases.{lt_or}
-use Rattle.floats.proofs.Ints.{minus, whole-value}
+use Rattle.floats.proofs.Ints.{minus, whole_value}
 
 -- ---- a sum of whole numbers is that of their sizes
 less_scaled : (a b c : ℕ) → 0 < c → ltb (a * c) (b * c) ≡ ltb a b
@@ -45,13 +45,13 @@ sum_scaled s a t b c p = rw (less_scaled a b c p, less_scaled b a c p) (go (beq 
     go false false w =
         round_same binary64 (s && ltb b a) (a * c - b * c) c (a - b) 1 p (omega arith) (minus_scaled a b c (ltb-false a b w))
 
-add-whole : (x y : Float) (s : Bool) (a : ℕ) (t : Bool) (b : ℕ) → HasValue x s a 1 → HasValue y t b 1 → add binary64 x y ≡ sum binary64 s a t b 1
+add_whole : (x y : Float) (s : Bool) (a : ℕ) (t : Bool) (b : ℕ) → HasValue x s a 1 → HasValue y t b 1 → add binary64 x y ≡ sum binary64 s a t b 1
 unfolding add
-add-whole nan y s a t b h k = absurd h
-add-whole (inf u) y s a t b h k = absurd h
-add-whole (fin u m e) nan s a t b h k = absurd k
-add-whole (fin u m e) (inf v) s a t b h k = absurd k
-add-whole (fin u m e) (fin v n d) s a t b h k =
+add_whole nan y s a t b h k = absurd h
+add_whole (inf u) y s a t b h k = absurd h
+add_whole (fin u m e) nan s a t b h k = absurd k
+add_whole (fin u m e) (inf v) s a t b h k = absurd k
+add_whole (fin u m e) (fin v n d) s a t b h k =
     rw (h.0, k.0, left (m * up e) a (down e) (down d) h.1, right (n * up d) b (down e) (down d) k.1)
     (sum_scaled s a t b (down e * down d) (mul-pos (down_pos e) (down_pos d)))
   where
@@ -67,9 +67,9 @@ neg_value nan s a h = absurd h
 neg_value (inf u) s a h = absurd h
 neg_value (fin u m e) s a h = (ap not h.0, h.1)
 
-sub-whole : (x y : Float) (s : Bool) (a : ℕ) (t : Bool) (b : ℕ) → HasValue x s a 1 → HasValue y t b 1 → sub binary64 x y ≡ sum binary64 s a (not t) b 1
+sub_whole : (x y : Float) (s : Bool) (a : ℕ) (t : Bool) (b : ℕ) → HasValue x s a 1 → HasValue y t b 1 → sub binary64 x y ≡ sum binary64 s a (not t) b 1
 unfolding sub
-sub-whole x y s a t b h k = add-whole x (neg y) s a (not t) b h (neg_value y t b k)
+sub_whole x y s a t b h k = add_whole x (neg y) s a (not t) b h (neg_value y t b k)
 
 -- ---- the sum in each case, as a value
 module _ (a b : ℕ) (small : a + b ≤ 2 ^ 53) where
@@ -132,11 +132,11 @@ module _ (z w : ℤ) (zs : nat_abs z ≤ 2 ^ 31) (ws : nat_abs w ≤ 2 ^ 31) whe
       → HasValue (sum binary64 (minus z) (nat_abs z) false h 1) (minus w) (nat_abs w) 1
       → Spanned (of_int binary64 z) (of_int binary64 w)
   spans h s f a b =
-      let vz : HasValue (of_int binary64 z) (minus z) (nat_abs z) 1 = whole-value z (omega arith) in
-      let vw : HasValue (of_int binary64 w) (minus w) (nat_abs w) 1 = whole-value w (omega arith) in
-      let e = sub-whole (of_int binary64 w) (of_int binary64 z) (minus w) (nat_abs w) (minus z) (nat_abs z) vw vz in
+      let vz : HasValue (of_int binary64 z) (minus z) (nat_abs z) 1 = whole_value z (omega arith) in
+      let vw : HasValue (of_int binary64 w) (minus w) (nat_abs w) 1 = whole_value w (omega arith) in
+      let e = sub_whole (of_int binary64 w) (of_int binary64 z) (minus w) (nat_abs w) (minus z) (nat_abs z) vw vz in
       let vh : HasValue (sub binary64 (of_int binary64 w) (of_int binary64 z)) false h 1 = rw e a in
-      let g = add-whole (of_int binary64 z) (sub binary64 (of_int binary64 w) (of_int binary64 z)) (minus z) (nat_abs z) false h vz vh in
+      let g = add_whole (of_int binary64 z) (sub binary64 (of_int binary64 w) (of_int binary64 z)) (minus z) (nat_abs z) false h vz vh in
       let vt : HasValue (add binary64 (of_int binary64 z) (sub binary64 (of_int binary64 w) (of_int binary64 z))) (minus w) (nat_abs w) 1 = rw g b in
       record {
         tall = h;

@@ -1,1 +1,2 @@
 // No code: the laws that tie building and searching stripes together stand in proofs/.
+#![tactic(auto)]

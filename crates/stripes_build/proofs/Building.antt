@@ -39,18 +39,18 @@ module _ (ring : ℕ → Float) (n : ℕ) (least height : Float) (m : ℕ) (stri
   filled_short h = rw (lt-leb (entries_of (crosses ring least height m) n m) (length list) h)
 
 module _ (ring : ℕ → Float) (n : ℕ) (stripes list : List ℕ) where
-  pub indexed-few : stripe_count ring n ≤ 65536 → stripe_count ring n * 2 ≤ length stripes
+  pub indexed_few : stripe_count ring n ≤ 65536 → stripe_count ring n * 2 ≤ length stripes
       → indexed ring n stripes list ≡ filled_of ring n (least_y ring n) (height_y ring n) (stripe_count ring n) stripes list
   unfolding indexed filled_of
-  indexed-few a b = rw (le-leb (stripe_count ring n) 65536 a, le-leb (stripe_count ring n * 2) (length stripes) b)
+  indexed_few a b = rw (le-leb (stripe_count ring n) 65536 a, le-leb (stripe_count ring n * 2) (length stripes) b)
 
   pub indexed_many : 65536 < stripe_count ring n → indexed ring n stripes list ≡ zeroed (StripesRefused NoRoom) stripes list
   unfolding indexed
   indexed_many h = rw (lt-leb (stripe_count ring n) 65536 h)
 
-  pub indexed-short : length stripes < stripe_count ring n * 2 → indexed ring n stripes list ≡ zeroed (StripesRefused NoRoom) stripes list
+  pub indexed_short : length stripes < stripe_count ring n * 2 → indexed ring n stripes list ≡ zeroed (StripesRefused NoRoom) stripes list
   unfolding indexed
-  indexed-short h = rw (lt-leb (stripe_count ring n * 2) (length stripes) h, no (leb (stripe_count ring n) 65536))
+  indexed_short h = rw (lt-leb (stripe_count ring n * 2) (length stripes) h, no (leb (stripe_count ring n) 65536))
     where
       no : (b : Bool) → (b && false) ≡ false
       no true = refl
@@ -62,9 +62,9 @@ unfolding indexed
 indexed_room ring n s s' l l' a b = rw (a, b)
 
 module _ (ring : ℕ → Float) (n threshold : ℕ) (stripes list : List ℕ) where
-  pub from-under : n < threshold → from_threshold ring n threshold stripes list ≡ zeroed Unstriped stripes list
+  pub from_under : n < threshold → from_threshold ring n threshold stripes list ≡ zeroed Unstriped stripes list
   unfolding from_threshold
-  from-under h = rw (lt-ltb n threshold h)
+  from_under h = rw (lt-ltb n threshold h)
 
   pub from_reached : threshold ≤ n → from_threshold ring n threshold stripes list ≡ indexed ring n stripes list
   unfolding from_threshold

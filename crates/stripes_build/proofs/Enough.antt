@@ -13,7 +13,7 @@ use Rattle.stripes_count.specs.Count.{stripe_count}
 use Rattle.stripes_index.specs.Index.{least_y, height_y, table_of, list_of, entries_of}
 use Rattle.stripes_build.specs.declared.StripesBuilt.TheVariants.{Striped}
 use Rattle.stripes_build.specs.Build.{crosses_in, stats_of, stripes_built}
-use Rattle.stripes_build.proofs.Building.{filled_fits, indexed-few, from_reached, built_sound}
+use Rattle.stripes_build.proofs.Building.{filled_fits, indexed_few, from_reached, built_sound}
 
 -- Every ring that passed its checks and reaches the threshold gets its stripes.
 pub builds : (ring : List ℤ) (points threshold : ℕ) (stripes list : List ℕ) → ring_checked ring points ≡ Sound → threshold ≤ segments points
@@ -29,5 +29,5 @@ builds ring points threshold stripes list sound reached few enough roomy =
     let n = segments points in
     built_sound (ring_checked ring points) (wide ring) points threshold stripes list sound
     ∙ from_reached (wide ring) n threshold stripes list reached
-    ∙ indexed-few (wide ring) n stripes list (omega arith) enough
+    ∙ indexed_few (wide ring) n stripes list (omega arith) enough
     ∙ filled_fits (wide ring) n (least_y (wide ring) n) (height_y (wide ring) n) (stripe_count (wide ring) n) stripes list roomy

@@ -1,4 +1,6 @@
 // Builds a ring's stripes in lent room.
+#![tactic(auto)]
+
 ghost use Rattle.std.specs.Prelude.{◌≡◌, ◌+◌, ◌*◌, ◌<◌, ◌≤◌, length, replicate};
 ghost use Rattle.rings.specs.Ring.{wide};
 ghost use Rattle.room.specs.Room.{pad};

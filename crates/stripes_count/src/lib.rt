@@ -1,4 +1,6 @@
 // How many stripes a ring calls for.
+#![tactic(auto)]
+
 ghost use Rattle.std.specs.Prelude.{◌≡◌, ◌+◌, ◌*◌, ◌<◌, ◌≤◌, length};
 ghost use Rattle.rings.specs.Ring.{wide};
 ghost use Rattle.stripes_count.specs.Count.{ends_at_of, cross_of, length_of, sum_to, area_of, perimeter_of, score_of, stripe_count};

@@ -12,7 +12,7 @@ use borrow.Author.Tests.{le-leb, lt-leb}
 use Rattle.answers.specs.declared.Refusal.{Refusal}
 use Rattle.answers.specs.declared.Refusal.TheVariants.{BadHeight, NoRoom, Damaged}
 use Rattle.room.specs.Room.{pad}
-use Rattle.room.proofs.Fill.{pad-none}
+use Rattle.room.proofs.Fill.{pad_none}
 use Rattle.rings.specs.declared.Checked.{Checked}
 use Rattle.rings.specs.declared.Checked.TheVariants.{Sound, Faulty}
 use Rattle.rings.specs.Ring.{side_at, segments, holds_height}
@@ -21,19 +21,19 @@ use Rattle.stripes_find.specs.Search.{Reading, Ending, complete, damaged_at, out
 use Rattle.stripes_find.specs.Listing.{Outcome, refused, ended, poured, stripes_listed_by}
 
 module _ (found : List ℕ) (ending : Ending) (out : List ℕ) where
-  pub poured-whole : length found ≤ length out → ending ≡ complete
+  pub poured_whole : length found ≤ length out → ending ≡ complete
       → poured (record { found = found; ending = ending }) out ≡ (StripesFound (length found), pad (length out) found)
   unfolding poured
-  poured-whole h e = rw (le-leb (length found) (length out) h, e)
+  poured_whole h e = rw (le-leb (length found) (length out) h, e)
 
   pub poured_hurt : (place : ℕ) → length found ≤ length out → ending ≡ damaged_at place
       → poured (record { found = found; ending = ending }) out ≡ refused (Damaged place) out
   unfolding poured
   poured_hurt place h e = rw (le-leb (length found) (length out) h, e)
 
-  pub poured-short : length out < length found → poured (record { found = found; ending = ending }) out ≡ refused NoRoom out
+  pub poured_short : length out < length found → poured (record { found = found; ending = ending }) out ≡ refused NoRoom out
   unfolding poured
-  poured-short h = rw (lt-leb (length found) (length out) h)
+  poured_short h = rw (lt-leb (length found) (length out) h)
 
 -- only the room's size counts
 pub poured_room : (r : Reading) (o o' : List ℕ) → length o ≡ length o' → poured r o ≡ poured r o'
@@ -46,23 +46,23 @@ poured_room r o o' e = go r.ending
 
 -- ---- the ways through a search
 module _ (ring : ℕ → Float) (n : ℕ) (least height : Float) (stripes list : List ℕ) (y : Float) where
-  pub searched-outside : outside y least height ≡ true → searched ring n least height stripes list y ≡ record { found = []; ending = complete }
+  pub searched_outside : outside y least height ≡ true → searched ring n least height stripes list y ≡ record { found = []; ending = complete }
   unfolding searched_by
-  searched-outside e = rw e
+  searched_outside e = rw e
 
-  pub searched-within : outside y least height ≡ false
+  pub searched_within : outside y least height ≡ false
       → searched ring n least height stripes list y ≡ read_stripe n (λ i. holds_height (side_at ring i) y) least height stripes list y
   unfolding searched_by
-  searched-within e = rw e
+  searched_within e = rw e
 
 module _ (checked : Checked) (ring : ℕ → Float) (points : ℕ) (least height : Float) (stripes list : List ℕ) (y : Float) (out : List ℕ) where
   pub listed_faulty : (why : Refusal) → checked ≡ Faulty why → stripes_listed_by checked ring points least height stripes list y out ≡ (StripesUnlisted why, out)
   unfolding stripes_listed_by
   listed_faulty why e = rw e
 
-  pub listed-height : checked ≡ Sound → finite y ≡ false → stripes_listed_by checked ring points least height stripes list y out ≡ (StripesUnlisted BadHeight, out)
+  pub listed_height : checked ≡ Sound → finite y ≡ false → stripes_listed_by checked ring points least height stripes list y out ≡ (StripesUnlisted BadHeight, out)
   unfolding stripes_listed_by
-  listed-height e f = rw (e, f)
+  listed_height e f = rw (e, f)
 
   pub listed_sound : checked ≡ Sound → finite y ≡ true
       → stripes_listed_by checked ring points least height stripes list y out ≡ poured (searched ring (segments points) least height stripes list y) out

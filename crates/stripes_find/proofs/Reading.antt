@@ -61,9 +61,9 @@ module _ (n : ℕ) (meets : ℕ → Bool) (list : List ℕ) (start past : ℕ) (
     ends_more : x < n → end_in n (at + 1) (slice (at + 1) past list) ≡ end_in n start (slice start past list)
     ends_more s = sym (end_more n meets list past at h b (rw (← is) s)) ∙ l.ends
 
-    pub listing-kept : x < n → meets x ≡ true → Listing (set out k x) (k + 1) (at + 1)
+    pub listing_kept : x < n → meets x ≡ true → Listing (set out k x) (k + 1) (at + 1)
     unfolding write
-    listing-kept s m =
+    listing_kept s m =
         let e : found_in n meets (slice at past list) ≡ x ∷ found_in n meets (slice (at + 1) past list) =
         more s ∙ ap (λ (t : Bool). cons_if t x (found_in n meets (slice (at + 1) past list))) m in
         record {

@@ -1,4 +1,6 @@
 // Searches a lent stripe index, whoever wrote it.
+#![tactic(auto)]
+
 ghost use Rattle.std.specs.Prelude.{◌≡◌, ◌+◌, ◌*◌, ◌/◌, ◌<◌, ◌≤◌, length, replicate};
 ghost use Rattle.rings.specs.Ring.{wide};
 ghost use Rattle.stripes_place.specs.Stripe.{stripe_of};

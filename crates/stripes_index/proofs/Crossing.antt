@@ -14,11 +14,11 @@ both true false h = absurd (true≢false (sym h))
 both false b h = absurd (true≢false (sym h))
 
 module _ (ring : ℕ → Float) (least height : Float) (m t i : ℕ) where
-  pub crosses-from : crosses ring least height m t i ≡ true → first_stripe ring least height m i ≤ t
-  crosses-from h = leb-true (first_stripe ring least height m i) t (both (leb (first_stripe ring least height m i) t) (leb t (last_stripe ring least height m i)) h).0
+  pub crosses_from : crosses ring least height m t i ≡ true → first_stripe ring least height m i ≤ t
+  crosses_from h = leb-true (first_stripe ring least height m i) t (both (leb (first_stripe ring least height m i) t) (leb t (last_stripe ring least height m i)) h).0
 
   pub crosses_to : crosses ring least height m t i ≡ true → t ≤ last_stripe ring least height m i
   crosses_to h = leb-true t (last_stripe ring least height m i) (both (leb (first_stripe ring least height m i) t) (leb t (last_stripe ring least height m i)) h).1
 
-  pub crosses-at : first_stripe ring least height m i ≤ t → t ≤ last_stripe ring least height m i → crosses ring least height m t i ≡ true
-  crosses-at a b = rw (le-leb (first_stripe ring least height m i) t a, le-leb t (last_stripe ring least height m i) b)
+  pub crosses_at : first_stripe ring least height m i ≤ t → t ≤ last_stripe ring least height m i → crosses ring least height m t i ≡ true
+  crosses_at a b = rw (le-leb (first_stripe ring least height m i) t a, le-leb t (last_stripe ring least height m i) b)

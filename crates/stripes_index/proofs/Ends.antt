@@ -64,19 +64,19 @@ module _ (ring : ℕ → Float) (n : ℕ) (nums : (k : ℕ) → k < n * 2 + 2 �
   unfolding greatest_y
   greatest_steps k h = le_greater (greatest_y ring k) (high_end ring k) (no_nan _ (greatest_all Coordinate ring n nums k (omega arith))) (no_nan _ (high_all Coordinate ring n nums k h))
 
-  least-below : (i k : ℕ) → i < k → k ≤ n → T (le (least_y ring k) (low_end ring i))
-  least-below i zero h b = absurd (omega arith)
-  least-below i (suc k) h b =
+  least_below : (i k : ℕ) → i < k → k ≤ n → T (le (least_y ring k) (low_end ring i))
+  least_below i zero h b = absurd (omega arith)
+  least_below i (suc k) h b =
       elim (lt_or i k) [
-        | inl l ↦ le_trans (least_y ring (suc k)) (least_y ring k) (low_end ring i) (least_steps k (omega arith)).0 (least-below i k l (omega arith))
+        | inl l ↦ le_trans (least_y ring (suc k)) (least_y ring k) (low_end ring i) (least_steps k (omega arith)).0 (least_below i k l (omega arith))
         | inr g ↦ let e : i ≡ k = omega arith in rw e (least_steps k (omega arith)).1
       ]
 
-  greatest-above : (i k : ℕ) → i < k → k ≤ n → T (le (high_end ring i) (greatest_y ring k))
-  greatest-above i zero h b = absurd (omega arith)
-  greatest-above i (suc k) h b =
+  greatest_above : (i k : ℕ) → i < k → k ≤ n → T (le (high_end ring i) (greatest_y ring k))
+  greatest_above i zero h b = absurd (omega arith)
+  greatest_above i (suc k) h b =
       elim (lt_or i k) [
-        | inl l ↦ le_trans (high_end ring i) (greatest_y ring k) (greatest_y ring (suc k)) (greatest-above i k l (omega arith)) (greatest_steps k (omega arith)).0
+        | inl l ↦ le_trans (high_end ring i) (greatest_y ring k) (greatest_y ring (suc k)) (greatest_above i k l (omega arith)) (greatest_steps k (omega arith)).0
         | inr g ↦ let e : i ≡ k = omega arith in rw e (greatest_steps k (omega arith)).1
       ]
 
@@ -90,20 +90,20 @@ module _ (ring : ℕ → Float) (n : ℕ) (nums : (k : ℕ) → k < n * 2 + 2 �
       (le_trans (least_y ring k) (greatest_y ring k) (greatest_y ring (suc k)) (ordered k (omega arith)) (greatest_steps k (omega arith)).0)
 
   -- a segment's own range lies from its low end to its high end
-  pub holds-between : (i : ℕ) (y : Float) → i < n → holds_height (side_at ring i) y ≡ true → T (le (low_end ring i) y) × T (le y (high_end ring i))
-  holds-between i y h e = between (ring (i * 2 + 1)) (ring (i * 2 + 3)) y (subst T (sym e) tt)
+  pub holds_between : (i : ℕ) (y : Float) → i < n → holds_height (side_at ring i) y ≡ true → T (le (low_end ring i) y) × T (le y (high_end ring i))
+  holds_between i y h e = between (ring (i * 2 + 1)) (ring (i * 2 + 3)) y (subst T (sym e) tt)
 
   -- and within the ring's
-  pub holds-within : (i : ℕ) (y : Float) → i < n → holds_height (side_at ring i) y ≡ true → T (le (least_y ring n) y) × T (le y (greatest_y ring n))
-  holds-within i y h e =
-      let r = holds-between i y h e in
-      (le_trans (least_y ring n) (low_end ring i) y (least-below i n h (omega arith)) r.0, le_trans y (high_end ring i) (greatest_y ring n) r.1 (greatest-above i n h (omega arith)))
+  pub holds_within : (i : ℕ) (y : Float) → i < n → holds_height (side_at ring i) y ≡ true → T (le (least_y ring n) y) × T (le y (greatest_y ring n))
+  holds_within i y h e =
+      let r = holds_between i y h e in
+      (le_trans (least_y ring n) (low_end ring i) y (least_below i n h (omega arith)) r.0, le_trans y (high_end ring i) (greatest_y ring n) r.1 (greatest_above i n h (omega arith)))
 
-  pub least-finite : T (finite (least_y ring n))
-  least-finite = is_finite (least_y ring n) (least_all Coordinate ring n nums n (omega arith))
+  pub least_finite : T (finite (least_y ring n))
+  least_finite = is_finite (least_y ring n) (least_all Coordinate ring n nums n (omega arith))
 
-  pub height-tall : Tall (height_y ring n)
-  height-tall =
+  pub height_tall : Tall (height_y ring n)
+  height_tall =
       let l = least_all Coordinate ring n nums n (omega arith) in
       let g = greatest_all Coordinate ring n nums n (omega arith) in
       tall_of (height_y ring n) (sub_nonneg (greatest_y ring n) (least_y ring n) (is_finite _ g) (is_finite _ l) (ordered n (omega arith))) (difference_finite (greatest_y ring n) (least_y ring n) g l)

@@ -8,12 +8,12 @@ use lib.ListN.{length, get_or, set, replicate, length-append, length-replicate, 
 use lib.Dec.{leb, ltb}
 use Rattle.room.specs.Numbers.{cons_if, up_to}
 use Rattle.room.specs.Room.{pad}
-use Rattle.room.proofs.Fill.{pad-length, pad-none}
+use Rattle.room.proofs.Fill.{pad_length, pad_none}
 use Rattle.room.proofs.UpTo.{up_to_split, up_to_done}
 use Rattle.stripes_index.specs.Joined.{joined}
 use Rattle.stripes_index.specs.Index.{part_of, list_of}
 use Rattle.stripes_index.specs.Inner.States.{pairs, none, counts_at, table_at, list_at_of}
-use Rattle.stripes_index.proofs.Joined.{joined_ext, joined_length, joined_rises, joined-set, pad-set, pad_push}
+use Rattle.stripes_index.proofs.Joined.{joined_ext, joined_length, joined_rises, joined_set, pad_set, pad_push}
 use Rattle.stripes_index.proofs.Pairs.{pairs_first, pairs_second, pairs_set_second, pairs_ext, pad_zeros, zero_pairs}
 use Rattle.stripes_index.proofs.Turns.{entered, entered_none, entered_all, entered_now, entered_next, entered_other, part_next}
 
@@ -80,31 +80,31 @@ module _ (cross : ℕ → ℕ → Bool) (m i s : ℕ) (h : s < m) where
   module _ (n : ℕ) (k : i < n) (e : cross s i ≡ true) where
     long : (t : ℕ) → length (pad (length (part_of cross n t)) (entered cross i s t)) ≡ length (part_of cross n t)
     long t =
-        pad-length (length (part_of cross n t)) (entered cross i s t)
+        pad_length (length (part_of cross n t)) (entered cross i s t)
         (omega (arith, entered_short cross i s t, part_grows cross (i + 1) n t (omega arith)))
 
     starts : (r : ℕ) → length (numbers_to cross r n i s) ≡ length (list_of cross n r)
     starts r = joined_length _ _ r (λ t l. long t)
 
     -- the place of the new number lies in the list
-    pub number-inside : length (list_of cross n s) + length (part_of cross i s) < length (list_of cross n m)
-    number-inside = omega (arith, part_room cross i n s k e, joined_rises (part_of cross n) m s h)
+    pub number_inside : length (list_of cross n s) + length (part_of cross i s) < length (list_of cross n m)
+    number_inside = omega (arith, part_room cross i n s k e, joined_rises (part_of cross n) m s h)
 
     -- as read from the stripes
     pub slot_inside : (room : ℕ) (xs : List ℕ) (p q long : ℕ) → xs ≡ pad room (counts_to cross m (λ t. length (list_of cross n t)) i s)
         → p ≡ get_or xs (s * 2) 0 → q ≡ get_or xs (s * 2 + 1) 0 → length (list_of cross n m) ≤ long → p + q < long
     slot_inside room xs p q long w u v b =
         let r = stripe_reads n room xs w in
-        omega (arith, r.0, r.1, number-inside)
+        omega (arith, r.0, r.1, number_inside)
 
     pub number_turn : (room : ℕ)
         → set (pad room (numbers_to cross m n i s)) (length (list_of cross n s) + length (part_of cross i s)) i
         ≡ pad room (numbers_to cross m n i (s + 1))
     number_turn room =
-        pad-set room (numbers_to cross m n i s) (length (list_of cross n s) + length (part_of cross i s)) i (omega (arith, number-inside, starts m))
+        pad_set room (numbers_to cross m n i s) (length (list_of cross n s) + length (part_of cross i s)) i (omega (arith, number_inside, starts m))
         ∙ ap (pad room)
         (ap (λ (j : ℕ). set (numbers_to cross m n i s) (j + length (part_of cross i s)) i) (sym (starts s))
-        ∙ joined-set (λ t. pad (length (part_of cross n t)) (entered cross i s t)) s (length (part_of cross i s))
+        ∙ joined_set (λ t. pad (length (part_of cross n t)) (entered cross i s t)) s (length (part_of cross i s))
         (omega (arith, long s, part_room cross i n s k e))
         (λ t. pad (length (part_of cross n t)) (entered cross i (s + 1) t)) i m h
         (λ t l w. ap (pad (length (part_of cross n t))) (entered_other cross i s t w))
@@ -120,8 +120,8 @@ module _ (cross : ℕ → ℕ → Bool) (m i s : ℕ) where
   pub counts_done : (a : ℕ → ℕ) → ((t : ℕ) → cross t i ≡ true → t < s) → counts_to cross m a i s ≡ pairs a (λ t. length (part_of cross (i + 1) t)) m
   counts_done a h = pairs_ext a a _ _ m (λ t l. refl) (λ t l. ap length (entered_all cross i s t (h t)))
 
-  pub numbers-from : (n : ℕ) → ((t : ℕ) → cross t i ≡ true → s ≤ t) → numbers_to cross m n i s ≡ list_at_of cross m n i
-  numbers-from n h = joined_ext _ _ m (λ t l. ap (pad (length (part_of cross n t))) (entered_none cross i s t (h t)))
+  pub numbers_from : (n : ℕ) → ((t : ℕ) → cross t i ≡ true → s ≤ t) → numbers_to cross m n i s ≡ list_at_of cross m n i
+  numbers_from n h = joined_ext _ _ m (λ t l. ap (pad (length (part_of cross n t))) (entered_none cross i s t (h t)))
 
   pub numbers_done : (n : ℕ) → ((t : ℕ) → cross t i ≡ true → t < s) → numbers_to cross m n i s ≡ list_at_of cross m n (i + 1)
   numbers_done n h = joined_ext _ _ m (λ t l. ap (pad (length (part_of cross n t))) (entered_all cross i s t (h t)))
@@ -152,7 +152,7 @@ module _ (cross : ℕ → ℕ → Bool) (m : ℕ) where
       let f : ℕ → ℕ = λ t. length (part_of cross n t) in
       let l : length (joined (λ t. replicate (f t) 0) m) ≡ length (list_of cross n m) = joined_length _ _ m (λ t k. length-replicate {A = ℕ} (f t) 0) in
       sym
-      (ap (pad room) (joined_ext _ _ m (λ t k. ap (pad (f t)) (up_to_done (cross t) 0 0 (omega arith)) ∙ pad-none (f t)) ∙ zeros f m)
+      (ap (pad room) (joined_ext _ _ m (λ t k. ap (pad (f t)) (up_to_done (cross t) 0 0 (omega arith)) ∙ pad_none (f t)) ∙ zeros f m)
       ∙ pad_zeros room (length (joined (λ t. replicate (f t) 0) m)) (omega arith))
 
   pub list_full : (n : ℕ) → list_at_of cross m n n ≡ list_of cross n m

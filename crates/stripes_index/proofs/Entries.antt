@@ -27,29 +27,29 @@ once : (b : Bool) (i : ℕ) → length (cons_if b i []) ≡ bit b
 once true i = refl
 once false i = refl
 
-kept-length : (t : ℕ → Bool) (n : ℕ) → length (up_to t n 0) ≡ times t n
+kept_length : (t : ℕ → Bool) (n : ℕ) → length (up_to t n 0) ≡ times t n
 unfolding times sum_to
-kept-length t zero = ap length (up_to_done t 0 0 (omega arith))
-kept-length t (suc n) =
+kept_length t zero = ap length (up_to_done t 0 0 (omega arith))
+kept_length t (suc n) =
     rw (← add-one n)
-    (ap length (part_next t n) ∙ length-append (up_to t n 0) (cons_if (t n) n []) ∙ ap₂ ◌+◌ (kept-length t n) (once (t n) n))
+    (ap length (part_next t n) ∙ length-append (up_to t n 0) (cons_if (t n) n []) ∙ ap₂ ◌+◌ (kept_length t n) (once (t n) n))
 
 sum_zero : (m : ℕ) → sum_to (λ s. 0) m ≡ 0
 unfolding sum_to
 sum_zero zero = refl
 sum_zero (suc m) = omega (arith, sum_zero m)
 
-sum-add : (a b : ℕ → ℕ) (m : ℕ) → sum_to (λ s. a s + b s) m ≡ sum_to a m + sum_to b m
+sum_add : (a b : ℕ → ℕ) (m : ℕ) → sum_to (λ s. a s + b s) m ≡ sum_to a m + sum_to b m
 unfolding sum_to
-sum-add a b zero = refl
-sum-add a b (suc m) = omega (arith, sum-add a b m)
+sum_add a b zero = refl
+sum_add a b (suc m) = omega (arith, sum_add a b m)
 
 -- counted by stripes, or by segments
 pub both_ways : (cross : ℕ → ℕ → Bool) (n m : ℕ) → sum_to (λ s. times (cross s) n) m ≡ sum_to (λ i. times (λ s. cross s i) m) n
 unfolding times sum_to
 both_ways cross zero m = sum_zero m
 both_ways cross (suc n) m =
-    sum-add (λ s. times (cross s) n) (λ s. bit (cross s n)) m ∙ ap (λ (k : ℕ). k + times (λ s. cross s n) m) (both_ways cross n m)
+    sum_add (λ s. times (cross s) n) (λ s. bit (cross s n)) m ∙ ap (λ (k : ℕ). k + times (λ s. cross s n) m) (both_ways cross n m)
 
 -- the stripes from a to b
 between : (a b m : ℕ) → times (λ s. leb a s && leb s b) m ≡ min m (suc b) - a
@@ -72,10 +72,10 @@ module _ (ring : ℕ → Float) (least height : Float) (n m : ℕ) (some : 0 < m
       ∙ omega (arith, stripe_below (high_end ring i) least height m some few)
 
   -- "the sum, over segments, of stripes crossed": from the first that it crosses to the last
-  pub entries-sum : entries_of (crosses ring least height m) n m ≡ sum_to (λ i. suc (last_stripe ring least height m i) - first_stripe ring least height m i) n
-  entries-sum =
+  pub entries_sum : entries_of (crosses ring least height m) n m ≡ sum_to (λ i. suc (last_stripe ring least height m i) - first_stripe ring least height m i) n
+  entries_sum =
       let cross = crosses ring least height m in
       sym (sum_starts cross n m)
-      ∙ sum_ext (λ s. length (part_of cross n s)) (λ s. times (cross s) n) m (λ s l. kept-length (cross s) n)
+      ∙ sum_ext (λ s. length (part_of cross n s)) (λ s. times (cross s) n) m (λ s l. kept_length (cross s) n)
       ∙ both_ways cross n m
       ∙ sum_ext (λ i. times (λ s. cross s i) m) (λ i. suc (last_stripe ring least height m i) - first_stripe ring least height m i) n (λ i l. crossed i)

@@ -10,9 +10,9 @@ use Rattle.room.specs.Room.{pad}
 use Rattle.room.proofs.Cases.{lt_or}
 use Rattle.stripes_index.specs.Joined.{joined}
 
-pub set-append-add : {A : Type 0} (xs ys : List A) (i : ℕ) (a : A) → set (xs ++ ys) (length xs + i) a ≡ xs ++ set ys i a
-set-append-add [] ys i a = let e : 0 + i ≡ i = omega arith in rw e
-set-append-add (x ∷ xs) ys i a = let e : suc (length xs) + i ≡ suc (length xs + i) = omega arith in rw e (ap (λ (r : List _). x ∷ r) (set-append-add xs ys i a))
+pub set_append_add : {A : Type 0} (xs ys : List A) (i : ℕ) (a : A) → set (xs ++ ys) (length xs + i) a ≡ xs ++ set ys i a
+set_append_add [] ys i a = let e : 0 + i ≡ i = omega arith in rw e
+set_append_add (x ∷ xs) ys i a = let e : suc (length xs) + i ≡ suc (length xs + i) = omega arith in rw e (ap (λ (r : List _). x ∷ r) (set_append_add xs ys i a))
 
 pub joined_ext : (f g : ℕ → List ℕ) (m : ℕ) → ((s : ℕ) → s < m → f s ≡ g s) → joined f m ≡ joined g m
 unfolding joined
@@ -49,27 +49,27 @@ module _ (f : ℕ → List ℕ) (t k : ℕ) (inside : k < length (f t)) where
       (lt_or t m)
 
   -- stored there
-  pub joined-set : (g : ℕ → List ℕ) (v m : ℕ) → t < m → ((s : ℕ) → s < m → (s ≡ t → ⊥) → f s ≡ g s) → set (f t) k v ≡ g t
+  pub joined_set : (g : ℕ → List ℕ) (v m : ℕ) → t < m → ((s : ℕ) → s < m → (s ≡ t → ⊥) → f s ≡ g s) → set (f t) k v ≡ g t
       → set (joined f m) (length (joined f t) + k) v ≡ joined g m
   unfolding joined
-  joined-set g v zero h same new = absurd (omega arith)
-  joined-set g v (suc m) h same new =
+  joined_set g v zero h same new = absurd (omega arith)
+  joined_set g v (suc m) h same new =
       ⊎_elim
       (λ (l : t < m). set-append_left (joined f m) (f m) (length (joined f t) + k) v (omega (arith, joined_rises f m t l))
-      ∙ ap₂ ◌++◌ (joined-set g v m l (λ s a b. same s (omega arith) b) new) (same m (omega arith) (λ e. omega arith)))
+      ∙ ap₂ ◌++◌ (joined_set g v m l (λ s a b. same s (omega arith) b) new) (same m (omega arith) (λ e. omega arith)))
       (λ (l : m ≤ t). let e : m ≡ t = omega arith in
       rw e
-      (set-append-add (joined f t) (f t) k v
+      (set_append_add (joined f t) (f t) k v
       ∙ ap₂ ◌++◌ (joined_ext f g t (λ s a. same s (omega arith) (λ w. omega arith))) new))
       (lt_or t m)
 
 -- the list t as a run of the whole
-pub joined-part : (f : ℕ → List ℕ) (m t : ℕ) (rest : List ℕ) → t < m → take (length (f t)) (drop (length (joined f t)) (joined f m ++ rest)) ≡ f t
+pub joined_part : (f : ℕ → List ℕ) (m t : ℕ) (rest : List ℕ) → t < m → take (length (f t)) (drop (length (joined f t)) (joined f m ++ rest)) ≡ f t
 unfolding joined
-joined-part f zero t rest h = absurd (omega arith)
-joined-part f (suc m) t rest h =
+joined_part f zero t rest h = absurd (omega arith)
+joined_part f (suc m) t rest h =
     ⊎_elim
-    (λ (l : t < m). ap (λ (xs : List ℕ). take (length (f t)) (drop (length (joined f t)) xs)) (append_assoc (joined f m) (f m) rest) ∙ joined-part f m t (f m ++ rest) l)
+    (λ (l : t < m). ap (λ (xs : List ℕ). take (length (f t)) (drop (length (joined f t)) xs)) (append_assoc (joined f m) (f m) rest) ∙ joined_part f m t (f m ++ rest) l)
     (λ (g : m ≤ t). let e : m ≡ t = omega arith in
     let z : length (joined f t) ≡ length (joined f t) + 0 = omega arith in
     rw e
@@ -85,9 +85,9 @@ module _ (n : ℕ) (xs : List ℕ) where
   unfolding pad
   pad_get i h = get_or-append xs _ 0 i h
 
-  pub pad-set : (i v : ℕ) → i < length xs → set (pad n xs) i v ≡ pad n (set xs i v)
+  pub pad_set : (i v : ℕ) → i < length xs → set (pad n xs) i v ≡ pad n (set xs i v)
   unfolding pad
-  pad-set i v h = rw (length-set) (set-append_left xs _ i v h)
+  pad_set i v h = rw (length-set) (set-append_left xs _ i v h)
 
 -- one number more
 pub pad_push : (n : ℕ) (xs : List ℕ) (v : ℕ) → length xs < n → set (pad n xs) (length xs) v ≡ pad n (xs ++ (v ∷ []))
@@ -96,5 +96,5 @@ pad_push n xs v h =
     let z : length xs ≡ length xs + 0 = omega arith in
     let e : n - length xs ≡ suc (n - (length xs + 1)) = omega arith in
     ap (λ (i : ℕ). set (xs ++ replicate (n - length xs) 0) i v) z
-    ∙ set-append-add xs (replicate (n - length xs) 0) 0 v
+    ∙ set_append_add xs (replicate (n - length xs) 0) 0 v
     ∙ rw (e, length-append) (sym (append_assoc xs (v ∷ []) (replicate (n - (length xs + 1)) 0)))

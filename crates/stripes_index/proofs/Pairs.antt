@@ -7,25 +7,25 @@ use lib.ListN.{length, get_or, set, replicate, length-append, length-replicate, 
 use Rattle.room.specs.Room.{pad}
 use Rattle.stripes_index.specs.Joined.{joined}
 use Rattle.stripes_index.specs.Inner.States.{pairs, none}
-use Rattle.stripes_index.proofs.Joined.{joined_ext, joined_get, joined-set, pad_get, pad-set}
+use Rattle.stripes_index.proofs.Joined.{joined_ext, joined_get, joined_set, pad_get, pad_set}
 
-pub pairs-length : (a b : ℕ → ℕ) (m : ℕ) → length (pairs a b m) ≡ m * 2
+pub pairs_length : (a b : ℕ → ℕ) (m : ℕ) → length (pairs a b m) ≡ m * 2
 unfolding joined
-pairs-length a b zero = refl
-pairs-length a b (suc m) = length-append (pairs a b m) (a m ∷ b m ∷ []) ∙ omega (arith, pairs-length a b m)
+pairs_length a b zero = refl
+pairs_length a b (suc m) = length-append (pairs a b m) (a m ∷ b m ∷ []) ∙ omega (arith, pairs_length a b m)
 
 pub pairs_ext : (a a' b b' : ℕ → ℕ) (m : ℕ) → ((s : ℕ) → s < m → a s ≡ a' s) → ((s : ℕ) → s < m → b s ≡ b' s) → pairs a b m ≡ pairs a' b' m
 pairs_ext a a' b b' m h k = joined_ext _ _ m (λ s l. ap₂ (λ (x y : ℕ). x ∷ y ∷ []) (h s l) (k s l))
 
 module _ (n m : ℕ) (a b : ℕ → ℕ) (s : ℕ) (h : s < m) where
   at : (k : ℕ) → length (pairs a b s) + k ≡ s * 2 + k
-  at k = ap (λ (x : ℕ). x + k) (pairs-length a b s)
+  at k = ap (λ (x : ℕ). x + k) (pairs_length a b s)
 
   inside : (k : ℕ) → k < 2 → s * 2 + k < length (pairs a b m)
-  inside k l = omega (arith, pairs-length a b m)
+  inside k l = omega (arith, pairs_length a b m)
 
   front : length (pairs a b s) + 0 ≡ s * 2
-  front = omega (arith, pairs-length a b s)
+  front = omega (arith, pairs_length a b s)
 
   pub pairs_first : get_or (pad n (pairs a b m)) (s * 2) 0 ≡ a s
   pairs_first =
@@ -39,21 +39,21 @@ module _ (n m : ℕ) (a b : ℕ → ℕ) (s : ℕ) (h : s < m) where
       ∙ ap (λ (i : ℕ). get_or (pairs a b m) i 0) (sym (at 1))
       ∙ joined_get (λ s. a s ∷ b s ∷ []) s 1 (omega arith) m h
 
-  pub pairs-set-first : (a' : ℕ → ℕ) → ((t : ℕ) → t < m → (t ≡ s → ⊥) → a t ≡ a' t)
+  pub pairs_set_first : (a' : ℕ → ℕ) → ((t : ℕ) → t < m → (t ≡ s → ⊥) → a t ≡ a' t)
       → set (pad n (pairs a b m)) (s * 2) (a' s) ≡ pad n (pairs a' b m)
-  pairs-set-first a' same =
-      pad-set n (pairs a b m) (s * 2) (a' s) (omega (arith, inside 0 (omega arith)))
+  pairs_set_first a' same =
+      pad_set n (pairs a b m) (s * 2) (a' s) (omega (arith, inside 0 (omega arith)))
       ∙ ap (pad n)
       (ap (λ (i : ℕ). set (pairs a b m) i (a' s)) (sym front)
-      ∙ joined-set (λ s. a s ∷ b s ∷ []) s 0 (omega arith) (λ s. a' s ∷ b s ∷ []) (a' s) m h (λ t l e. ap (λ (x : ℕ). x ∷ b t ∷ []) (same t l e)) refl)
+      ∙ joined_set (λ s. a s ∷ b s ∷ []) s 0 (omega arith) (λ s. a' s ∷ b s ∷ []) (a' s) m h (λ t l e. ap (λ (x : ℕ). x ∷ b t ∷ []) (same t l e)) refl)
 
   pub pairs_set_second : (b' : ℕ → ℕ) → ((t : ℕ) → t < m → (t ≡ s → ⊥) → b t ≡ b' t)
       → set (pad n (pairs a b m)) (s * 2 + 1) (b' s) ≡ pad n (pairs a b' m)
   pairs_set_second b' same =
-      pad-set n (pairs a b m) (s * 2 + 1) (b' s) (inside 1 (omega arith))
+      pad_set n (pairs a b m) (s * 2 + 1) (b' s) (inside 1 (omega arith))
       ∙ ap (pad n)
       (ap (λ (i : ℕ). set (pairs a b m) i (b' s)) (sym (at 1))
-      ∙ joined-set (λ s. a s ∷ b s ∷ []) s 1 (omega arith) (λ s. a s ∷ b' s ∷ []) (b' s) m h (λ t l e. ap (λ (x : ℕ). a t ∷ x ∷ []) (same t l e)) refl)
+      ∙ joined_set (λ s. a s ∷ b s ∷ []) s 1 (omega arith) (λ s. a s ∷ b' s ∷ []) (b' s) m h (λ t l e. ap (λ (x : ℕ). a t ∷ x ∷ []) (same t l e)) refl)
 
 -- zeros
 pub pad_zeros : (n k : ℕ) → k ≤ n → pad n (replicate k 0) ≡ replicate n 0

@@ -14,7 +14,7 @@ use Rattle.stripes_index.specs.Joined.{joined}
 use Rattle.stripes_index.specs.Index.{part_of, list_of, entries_of, fullest_of}
 use Rattle.stripes_index.specs.Inner.States.{pairs, none, second_at, sum_to, most_to, counts_at, table_at}
 use Rattle.stripes_index.proofs.Entering.{table_zero}
-use Rattle.stripes_index.proofs.Pairs.{pairs_ext, pairs_second, pairs-set-first, pairs_set_second}
+use Rattle.stripes_index.proofs.Pairs.{pairs_ext, pairs_second, pairs_set_first, pairs_set_second}
 
 pub sum_bound : (c : ℕ → ℕ) (k m : ℕ) → ((s : ℕ) → s < m → c s ≤ k) → sum_to c m ≤ m * k
 unfolding sum_to
@@ -68,8 +68,8 @@ module _ (c : ℕ → ℕ) (room m : ℕ) where
   starts_all = pairs_ext _ (sum_to c) _ none m (λ s l. rw (lt-ltb s m l)) (λ s l. rw (lt-ltb s m l))
 
   module _ (t : ℕ) (h : t < m) where
-    pub start-count : get_or (pad room (starts_to c m t)) (t * 2 + 1) 0 ≡ c t
-    start-count =
+    pub start_count : get_or (pad room (starts_to c m t)) (t * 2 + 1) 0 ≡ c t
+    start_count =
         pairs_second room m (λ s. cond (ltb s t) (sum_to c s) 0) (λ s. cond (ltb s t) 0 (c s)) t h ∙ rw (le-ltb t t (omega arith))
 
     pub start_turn : set (set (pad room (starts_to c m t)) (t * 2) (sum_to c t)) (t * 2 + 1) 0 ≡ pad room (starts_to c m (t + 1))
@@ -81,7 +81,7 @@ module _ (c : ℕ → ℕ) (room m : ℕ) where
         let e : sum_to c t ≡ a' t = rw (lt-ltb t (t + 1) (omega arith)) in
         let f : 0 ≡ b' t = rw (lt-ltb t (t + 1) (omega arith)) in
         ap₂ (λ (v w : ℕ). set (set (pad room (starts_to c m t)) (t * 2) v) (t * 2 + 1) w) e f
-        ∙ ap (λ (xs : List ℕ). set xs (t * 2 + 1) (b' t)) (pairs-set-first room m a b t h a' (λ s l w. other s t (sum_to c s) 0 w))
+        ∙ ap (λ (xs : List ℕ). set xs (t * 2 + 1) (b' t)) (pairs_set_first room m a b t h a' (λ s l w. other s t (sum_to c s) 0 w))
         ∙ pairs_set_second room m a' b t h b' (λ s l w. other s t 0 (c s) w)
 
 -- ---- what the counts of n segments come to
@@ -96,13 +96,13 @@ module _ (cross : ℕ → ℕ → Bool) (n m room : ℕ) (xs : List ℕ) (w : xs
   sums : (k : ℕ) → k ≤ m → sum_to (second_at xs) k ≡ length (list_of cross n k)
   sums k h = sum_ext (second_at xs) (λ s. length (part_of cross n s)) k (λ s l. counted s (omega arith)) ∙ sum_starts cross n k
 
-  pub counted-entries : sum_to (second_at xs) m ≡ entries_of cross n m
-  counted-entries = sums m (omega arith)
+  pub counted_entries : sum_to (second_at xs) m ≡ entries_of cross n m
+  counted_entries = sums m (omega arith)
 
   pub counted_fullest : most_to (second_at xs) m ≡ fullest_of cross n m
   counted_fullest = most_ext (second_at xs) (λ s. length (part_of cross n s)) m counted ∙ most_fullest cross n m
 
-  pub counted-table : pairs (sum_to (second_at xs)) none m ≡ table_at cross m n 0
-  counted-table =
+  pub counted_table : pairs (sum_to (second_at xs)) none m ≡ table_at cross m n 0
+  counted_table =
       pairs_ext (sum_to (second_at xs)) (λ s. length (list_of cross n s)) none none m (λ s l. sums s (omega arith)) (λ s l. refl)
       ∙ table_zero cross m n

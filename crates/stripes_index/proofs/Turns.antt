@@ -24,16 +24,16 @@ part_next t i =
 unfoldable pub entered : (ℕ → ℕ → Bool) → ℕ → ℕ → ℕ → List ℕ
 entered cross i s t = part_of cross i t ++ cons_if (cross t i && ltb t s) i []
 
-same-and : (a b c : Bool) → (a ≡ true → b ≡ c) → (a && b) ≡ (a && c)
-same-and true b c h = h refl
-same-and false b c h = refl
+same_and : (a b c : Bool) → (a ≡ true → b ≡ c) → (a && b) ≡ (a && c)
+same_and true b c h = h refl
+same_and false b c h = refl
 
 module _ (cross : ℕ → ℕ → Bool) (i s : ℕ) where
   -- before the first stripe, and past the last
   pub entered_none : (t : ℕ) → (cross t i ≡ true → s ≤ t) → entered cross i s t ≡ part_of cross i t
   unfolding entered
   entered_none t h =
-      ap (λ (b : Bool). part_of cross i t ++ cons_if b i []) (same-and (cross t i) (ltb t s) false (λ e. le-ltb t s (h e)) ∙ no (cross t i))
+      ap (λ (b : Bool). part_of cross i t ++ cons_if b i []) (same_and (cross t i) (ltb t s) false (λ e. le-ltb t s (h e)) ∙ no (cross t i))
       ∙ append-nil (part_of cross i t)
     where
       no : (b : Bool) → (b && false) ≡ false
@@ -43,7 +43,7 @@ module _ (cross : ℕ → ℕ → Bool) (i s : ℕ) where
   pub entered_all : (t : ℕ) → (cross t i ≡ true → t < s) → entered cross i s t ≡ part_of cross (i + 1) t
   unfolding entered
   entered_all t h =
-      ap (λ (b : Bool). part_of cross i t ++ cons_if b i []) (same-and (cross t i) (ltb t s) true (λ e. lt-ltb t s (h e)) ∙ yes (cross t i))
+      ap (λ (b : Bool). part_of cross i t ++ cons_if b i []) (same_and (cross t i) (ltb t s) true (λ e. lt-ltb t s (h e)) ∙ yes (cross t i))
       ∙ sym (part_next (cross t) i)
     where
       yes : (b : Bool) → (b && true) ≡ b

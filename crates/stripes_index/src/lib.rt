@@ -1,6 +1,8 @@
 // A ring's stripes: the ends of its segments, how many segments cross each stripe, and where each
 // stripe's part of the list starts. The `pub` functions are for the crates above, which have checked
 // the ring.
+#![tactic(auto)]
+
 ghost use Rattle.std.specs.Prelude.{◌≡◌, ℕ, ◌+◌, ◌*◌, ◌<◌, ◌≤◌, max, length, replicate};
 ghost use Rattle.rings.specs.Ring.{wide};
 ghost use Rattle.room.specs.Room.{pad};

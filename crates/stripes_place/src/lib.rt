@@ -1,4 +1,6 @@
 // The stripe of a height.
+#![tactic(auto)]
+
 ghost use Rattle.std.specs.Prelude.{◌≡◌};
 ghost use Rattle.stripes_place.specs.Stripe.{stripe_of};
 

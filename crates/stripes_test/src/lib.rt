@@ -1,4 +1,6 @@
 // The ring test by stripes: one pass over the stripe of the point's height, with no list room.
+#![tactic(auto)]
+
 ghost use Rattle.std.specs.Prelude.{◌≡◌, ◌+◌, ◌*◌, ◌<◌, ◌≤◌, length};
 ghost use Rattle.rings.specs.Ring.{wide};
 ghost use Rattle.stripes_find.specs.Search.{searched};

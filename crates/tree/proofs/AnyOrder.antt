@@ -10,25 +10,25 @@ use lib.ListN.{length, length-append}
 use borrow.Author.Tests.{eq-eqb, ne_eqb}
 use Rattle.room.specs.Numbers.{bit, count}
 use Rattle.room.proofs.Cases.{eq_or}
-use Rattle.room.proofs.Count.{count-append}
+use Rattle.room.proofs.Count.{count_append}
 use Rattle.rings.specs.RingTest.{test_from}
 
-count-first : (x : ℕ) (xs : List ℕ) → count x (x ∷ xs) ≡ suc (count x xs)
+count_first : (x : ℕ) (xs : List ℕ) → count x (x ∷ xs) ≡ suc (count x xs)
 unfolding count
-count-first x xs = rw (eq-eqb x x refl) (omega arith)
+count_first x xs = rw (eq-eqb x x refl) (omega arith)
 
 count_none : (k : ℕ) → count k [] ≡ 0
 unfolding count
 count_none k = refl
 
-count-cons : (k x : ℕ) (xs : List ℕ) → count k (x ∷ xs) ≡ bit (eqb x k) + count k xs
+count_cons : (k x : ℕ) (xs : List ℕ) → count k (x ∷ xs) ≡ bit (eqb x k) + count k xs
 unfolding count
-count-cons k x xs = refl
+count_cons k x xs = refl
 
 -- x taken out of two lists
 less : (k x : ℕ) (xs ys us vs : List ℕ) → ys ≡ us ++ (x ∷ vs) → count k (x ∷ xs) ≡ count k ys → count k xs ≡ count k (us ++ vs)
 less k x xs ys us vs e h =
-    omega (arith, h, ap (count k) e, count-append k us (x ∷ vs), count-append k us vs, count-cons k x vs, count-cons k x xs)
+    omega (arith, h, ap (count k) e, count_append k us (x ∷ vs), count_append k us vs, count_cons k x vs, count_cons k x xs)
 
 -- a list that has x somewhere
 abbrev Has : ℕ → List ℕ → Type 0
@@ -48,7 +48,7 @@ find x n (y ∷ ys) e =
 
 none : (xs : List ℕ) → ((k : ℕ) → 0 ≡ count k xs) → [] ≡ xs
 none [] h = refl
-none (x ∷ xs) h = absurd (let e = h x in let f = count-first x xs in omega arith)
+none (x ∷ xs) h = absurd (let e = h x in let f = count_first x xs in omega arith)
 
 module _ (on inside : ℕ → Bool) (edge : Bool) where
   abbrev test : Bool → List ℕ → Bool
@@ -79,7 +79,7 @@ module _ (on inside : ℕ → Bool) (edge : Bool) where
   pub any_order : (xs ys : List ℕ) → ((k : ℕ) → count k xs ≡ count k ys) → (answer : Bool) → test answer xs ≡ test answer ys
   any_order [] ys h answer = ap (test answer) (none ys (λ k. sym (count_none k) ∙ h k))
   any_order (x ∷ xs) ys h answer =
-      let r = find x (count x xs) ys (sym (h x) ∙ count-first x xs) in
+      let r = find x (count x xs) ys (sym (h x) ∙ count_first x xs) in
       after_one x xs (r.0 ++ r.1) (any_order xs (r.0 ++ r.1) (λ k. less k x xs ys r.0 r.1 r.2 (h k))) answer
       ∙ sym (to_front x r.0 r.1 answer)
       ∙ ap (test answer) (sym r.2)
@@ -87,6 +87,6 @@ module _ (on inside : ℕ → Bool) (edge : Bool) where
 pub same_length : (xs ys : List ℕ) → ((k : ℕ) → count k xs ≡ count k ys) → length xs ≡ length ys
 same_length [] ys h = ap length (none ys (λ k. sym (count_none k) ∙ h k))
 same_length (x ∷ xs) ys h =
-    let r = find x (count x xs) ys (sym (h x) ∙ count-first x xs) in
+    let r = find x (count x xs) ys (sym (h x) ∙ count_first x xs) in
     let s = same_length xs (r.0 ++ r.1) (λ k. less k x xs ys r.0 r.1 r.2 (h k)) in
     omega (arith, s, ap length r.2, length-append r.0 (x ∷ r.1), length-append r.0 r.1)

@@ -11,7 +11,7 @@ use lib.Ieee.{Float}
 use lib.Dec.{ltb}
 use borrow.Author.Tests.{ltb-true, ltb-false}
 use Rattle.room.specs.Numbers.{up_to, bit, count}
-use Rattle.room.proofs.Holds.{drop-holds}
+use Rattle.room.proofs.Holds.{drop_holds}
 use Rattle.room.proofs.UpTo.{up_to_length}
 use Rattle.room.proofs.Count.{count_up_to, count_up_to_past}
 use Rattle.boxes.specs.declared.Rect.{Rect}
@@ -21,25 +21,25 @@ use Rattle.tree.specs.Tree.{Tree, leaf, split, those, goes_to, choice, stayers, 
 use Rattle.tree.specs.Search.{Found, End, ends, fails, upto, meets_height, node, searched}
 use Rattle.tree.proofs.AnyOrder.{same_length}
 use Rattle.tree.specs.All.{All}
-use Rattle.tree.proofs.Lists.{Rising, all_map, all_those, all_kept, rising_those, those-none, those-length, count-those, those-keep, all_keep, rising_keep}
-use Rattle.tree.proofs.Share.{kid_of, grown_cases, count-grown, all_grown}
-use Rattle.tree.proofs.Size.{Small, per_segment, packed-size}
-use Rattle.tree.proofs.Order.{Inside, Numbered, missed, inside_quad, inside-ring}
+use Rattle.tree.proofs.Lists.{Rising, all_map, all_those, all_kept, rising_those, those_none, those_length, count_those, those_keep, all_keep, rising_keep}
+use Rattle.tree.proofs.Share.{kid_of, grown_cases, count_grown, all_grown}
+use Rattle.tree.proofs.Size.{Small, per_segment, packed_size}
+use Rattle.tree.proofs.Order.{Inside, Numbered, missed, inside_quad, inside_ring}
 use Rattle.tree.proofs.Back.{holds_at, Own, ReadsAs, Kid, leaf_back, split_back}
 
 -- a node has bytes
-leaf-some : (xs : List ℕ) → 0 < length (packed (leaf xs))
+leaf_some : (xs : List ℕ) → 0 < length (packed (leaf xs))
 unfolding packed
-leaf-some xs = omega (arith, length-append (own_bytes xs) (0 ∷ []))
+leaf_some xs = omega (arith, length-append (own_bytes xs) (0 ∷ []))
 
-split-some : (xs : List ℕ) (f : ℕ → Tree) → 0 < length (packed (split xs f))
+split_some : (xs : List ℕ) (f : ℕ → Tree) → 0 < length (packed (split xs f))
 unfolding packed
-split-some xs f = rw length-append (omega arith)
+split_some xs f = rw length-append (omega arith)
 
-pub packed-some : (ring : ℕ → Float) (left : ℕ) (box : Rect) (xs : List ℕ) → 0 < length (packed (grown ring left box xs))
+pub packed_some : (ring : ℕ → Float) (left : ℕ) (box : Rect) (xs : List ℕ) → 0 < length (packed (grown ring left box xs))
 unfolding grown
-packed-some ring zero box xs = leaf-some xs
-packed-some ring (suc left) box xs = grown_cases (λ t. 0 < length (packed t)) ring left box xs (leaf-some xs) (λ h. split-some _ _)
+packed_some ring zero box xs = leaf_some xs
+packed_some ring (suc left) box xs = grown_cases (λ t. 0 < length (packed t)) ring left box xs (leaf_some xs) (λ h. split_some _ _)
 
 module _ (bytes : List ℕ) (ring : ℕ → Float) (segments : ℕ) (y : Float) where
   -- what arrives at a node
@@ -54,7 +54,7 @@ module _ (bytes : List ℕ) (ring : ℕ → Float) (segments : ℕ) (y : Float) 
   owns left box xs t a =
       record {
         few = a.few;
-        many = (let l = those-length t xs in let b = a.bound in omega arith);
+        many = (let l = those_length t xs in let b = a.bound in omega arith);
         within = all_kept (λ x. x < segments) t xs a.within;
         rising = rising_those t 0 xs a.rising;
       }
@@ -67,7 +67,7 @@ module _ (bytes : List ℕ) (ring : ℕ → Float) (segments : ℕ) (y : Float) 
   goes left box xs q a =
       record {
         few = a.few;
-        bound = (let m = mul-le-mul_left (per_segment left) (those-length (λ i. goes_to q (choice ring box i)) xs) in let b = a.bound in omega arith);
+        bound = (let m = mul-le-mul_left (per_segment left) (those_length (λ i. goes_to q (choice ring box i)) xs) in let b = a.bound in omega arith);
         within = all_kept (λ x. x < segments) (λ i. goes_to q (choice ring box i)) xs a.within;
         rising = rising_those (λ i. goes_to q (choice ring box i)) 0 xs a.rising;
         inside = all_those (Inside ring (quad_bounds box q)) (λ i. goes_to q (choice ring box i)) xs
@@ -81,10 +81,10 @@ module _ (bytes : List ℕ) (ring : ℕ → Float) (segments : ℕ) (y : Float) 
       record { small = omega arith; nothing = λ z. refl; reads = λ m z. absurd (z refl); misses = λ m. refl }
   kid_back left box (x ∷ ys) a r =
       record {
-        small = (let b = packed-size ring left box (x ∷ ys) (omega arith) (all_map (λ k. k < segments) Small (x ∷ ys) (λ k h. let f = a.few in omega arith) a.within) a.bound in let b' = a.bound in omega arith);
-        nothing = λ z. absurd (let s = packed-some ring left box (x ∷ ys) in omega arith);
+        small = (let b = packed_size ring left box (x ∷ ys) (omega arith) (all_map (λ k. k < segments) Small (x ∷ ys) (λ k h. let f = a.few in omega arith) a.within) a.bound in let b' = a.bound in omega arith);
+        nothing = λ z. absurd (let s = packed_some ring left box (x ∷ ys) in omega arith);
         reads = λ m z. r;
-        misses = λ m. those-none (holds_at bytes ring segments y) (in_order (grown ring left box (x ∷ ys)))
+        misses = λ m. those_none (holds_at bytes ring segments y) (in_order (grown ring left box (x ∷ ys)))
             (all_grown (λ i. holds_height (side_at ring i) y ≡ false) ring left box (x ∷ ys) (all_map (Inside ring box) (λ i. holds_height (side_at ring i) y ≡ false) (x ∷ ys) (λ i p. missed ring box y i m p) a.inside));
       }
 
@@ -120,54 +120,54 @@ module _ (ring : ℕ → Float) (points : ℕ) (y : Float) (few : points ≤ 409
         bound = (let l = up_to_length (λ i. true) (points - 1) 0 in omega arith);
         within = all_map (λ x. x < 0 + (points - 1 - 0)) (λ x. x < points - 1) (all_segments points) (λ x h. omega arith) (all_keep (λ i. true) (points - 1 - 0) 0);
         rising = rising_keep (λ i. true) (points - 1 - 0) 0 0 (omega arith);
-        inside = all_map (λ x. x < 0 + (points - 1 - 0)) (Inside ring (ring_box ring points)) (all_segments points) (λ i h. inside-ring ring points i plain (omega arith)) (all_keep (λ i. true) (points - 1 - 0) 0);
+        inside = all_map (λ x. x < 0 + (points - 1 - 0)) (Inside ring (ring_box ring points)) (all_segments points) (λ i h. inside_ring ring points i plain (omega arith)) (all_keep (λ i. true) (points - 1 - 0) 0);
       }
 
-  whole-node : node (packed (tree_of ring points)) ring (segments points) y max_depth (ring_box ring points) 0 (length (packed (tree_of ring points)))
+  whole_node : node (packed (tree_of ring points)) ring (segments points) y max_depth (ring_box ring points) 0 (length (packed (tree_of ring points)))
       ≡ (those (holds_y ring points y) (in_order (tree_of ring points)), ends (length (packed (tree_of ring points))))
   unfolding tree_of
-  whole-node =
+  whole_node =
       let bytes = packed (grown ring max_depth (ring_box ring points) (all_segments points)) in
-      rw zero-add at (node_back bytes ring (points - 1) y max_depth (ring_box ring points) (all_segments points) root 0 (drop-holds bytes 0 bytes [] (sym (append-nil bytes))))
+      rw zero-add at (node_back bytes ring (points - 1) y max_depth (ring_box ring points) (all_segments points) root 0 (drop_holds bytes 0 bytes [] (sym (append-nil bytes))))
 
   all_missed : meets_height (ring_box ring points) y ≡ false → those (holds_y ring points y) (in_order (tree_of ring points)) ≡ []
   unfolding tree_of
   all_missed m =
-      those-none (holds_y ring points y) (in_order (grown ring max_depth (ring_box ring points) (all_segments points)))
+      those_none (holds_y ring points y) (in_order (grown ring max_depth (ring_box ring points) (all_segments points)))
       (all_grown (λ i. holds_y ring points y i ≡ false) ring max_depth (ring_box ring points) (all_segments points)
       (all_map (Inside ring (ring_box ring points)) (λ i. holds_y ring points y i ≡ false) (all_segments points) (λ i p. missed ring (ring_box ring points) y i m p) root.inside))
 
   -- what is found is what the tree holds of the height, in node order, and nothing is refused
-  pub tree-found : ((tree_search ring points y).0 ≡ those (holds_y ring points y) (in_order (tree_of ring points))) × Whole (tree_search ring points y).1
+  pub tree_found : ((tree_search ring points y).0 ≡ those (holds_y ring points y) (in_order (tree_of ring points))) × Whole (tree_search ring points y).1
   unfolding searched
-  tree-found = go (meets_height (ring_box ring points) y) refl
+  tree_found = go (meets_height (ring_box ring points) y) refl
     where
       visited : Found
       visited = node (packed (tree_of ring points)) ring (segments points) y max_depth (ring_box ring points) 0 (length (packed (tree_of ring points)))
 
       go : (b : Bool) → meets_height (ring_box ring points) y ≡ b
           → ((cond b visited (upto 0)).0 ≡ those (holds_y ring points y) (in_order (tree_of ring points))) × Whole (cond b visited (upto 0)).1
-      go true e = (ap (λ (f : Found). f.0) whole-node, rw whole-node tt)
+      go true e = (ap (λ (f : Found). f.0) whole_node, rw whole_node tt)
       go false e = (sym (all_missed e), tt)
 
   -- the tree holds each segment of the ring once, and no other
-  pub tree-holds : (k : ℕ) → count k (in_order (tree_of ring points)) ≡ count k (all_segments points)
+  pub tree_holds : (k : ℕ) → count k (in_order (tree_of ring points)) ≡ count k (all_segments points)
   unfolding tree_of
-  tree-holds k = count-grown k ring max_depth (ring_box ring points) (all_segments points)
+  tree_holds k = count_grown k ring max_depth (ring_box ring points) (all_segments points)
 
   -- by rising number they are those of all segments
-  meeting-those : those (holds_y ring points y) (all_segments points) ≡ meeting ring points y
+  meeting_those : those (holds_y ring points y) (all_segments points) ≡ meeting ring points y
   unfolding meeting up_to
-  meeting-those = those-keep (holds_y ring points y) (points - 1 - 0) 0
+  meeting_those = those_keep (holds_y ring points y) (points - 1 - 0) 0
 
   -- what a search finds is what a scan finds, in another order
   pub tree_lists : (k : ℕ) → count k (tree_search ring points y).0 ≡ count k (meeting ring points y)
   tree_lists k =
-      ap (count k) tree-found.0
-      ∙ count-those (holds_y ring points y) k (in_order (tree_of ring points))
-      ∙ ap (λ (n : ℕ). bit (holds_y ring points y k) * n) (tree-holds k)
-      ∙ sym (count-those (holds_y ring points y) k (all_segments points))
-      ∙ ap (count k) meeting-those
+      ap (count k) tree_found.0
+      ∙ count_those (holds_y ring points y) k (in_order (tree_of ring points))
+      ∙ ap (λ (n : ℕ). bit (holds_y ring points y k) * n) (tree_holds k)
+      ∙ sym (count_those (holds_y ring points y) k (all_segments points))
+      ∙ ap (count k) meeting_those
 
   pub tree_lists_length : length (tree_search ring points y).0 ≡ length (meeting ring points y)
   tree_lists_length = same_length (tree_search ring points y).0 (meeting ring points y) tree_lists

@@ -23,9 +23,9 @@ module _ (ring : ℕ → Float) (offset : ℕ) where
   unfolding least
   least_next i = rw add-one
 
-  pub greatest-first : ring offset ≡ greatest (at ring offset) 0
+  pub greatest_first : ring offset ≡ greatest (at ring offset) 0
   unfolding greatest
-  greatest-first = first
+  greatest_first = first
 
   pub greatest_next : (i : ℕ) → greater_of (greatest (at ring offset) i) (at ring offset (i + 1)) ≡ greatest (at ring offset) (i + 1)
   unfolding greatest

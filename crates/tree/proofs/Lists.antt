@@ -8,7 +8,7 @@ use lib.Dec.{eqb}
 use lib.ListN.{length}
 use borrow.Author.Tests.{eqb-true}
 use Rattle.room.specs.Numbers.{cons_if, keep, bit, count}
-use Rattle.room.proofs.Count.{count-cons_if}
+use Rattle.room.proofs.Count.{count_cons_if}
 use Rattle.tree.specs.All.{All}
 use Rattle.tree.specs.Tree.{those}
 
@@ -62,10 +62,10 @@ unfolding Rising those
 rising_those t m [] r = tt
 rising_those t m (x ∷ xs) r = rising_cons_if (t x) m x (those t xs) r.0 (rising_those t x xs r.1)
 
-pub those-append : (t : ℕ → Bool) (xs ys : List ℕ) → those t (xs ++ ys) ≡ those t xs ++ those t ys
+pub those_append : (t : ℕ → Bool) (xs ys : List ℕ) → those t (xs ++ ys) ≡ those t xs ++ those t ys
 unfolding those
-those-append t [] ys = refl
-those-append t (x ∷ xs) ys = rw (those-append t xs ys) (out (t x) (those t xs))
+those_append t [] ys = refl
+those_append t (x ∷ xs) ys = rw (those_append t xs ys) (out (t x) (those t xs))
   where
     out : (b : Bool) (zs : List ℕ) → cons_if b x (zs ++ those t ys) ≡ cons_if b x zs ++ those t ys
     out true zs = refl
@@ -77,41 +77,41 @@ those_ext t u [] h = refl
 those_ext t u (x ∷ xs) h = ap₂ (λ (b : Bool) (ys : List ℕ). cons_if b x ys) (h x) (those_ext t u xs h)
 
 -- a list of which all pass
-pub those-whole : (t : ℕ → Bool) (xs : List ℕ) → All (λ x. t x ≡ true) xs → those t xs ≡ xs
+pub those_whole : (t : ℕ → Bool) (xs : List ℕ) → All (λ x. t x ≡ true) xs → those t xs ≡ xs
 unfolding All those
-those-whole t [] a = refl
-those-whole t (x ∷ xs) a = rw a.0 (ap (λ (ys : List ℕ). x ∷ ys) (those-whole t xs a.1))
+those_whole t [] a = refl
+those_whole t (x ∷ xs) a = rw a.0 (ap (λ (ys : List ℕ). x ∷ ys) (those_whole t xs a.1))
 
 -- a list of which none passes
-pub those-none : (t : ℕ → Bool) (xs : List ℕ) → All (λ x. t x ≡ false) xs → those t xs ≡ []
+pub those_none : (t : ℕ → Bool) (xs : List ℕ) → All (λ x. t x ≡ false) xs → those t xs ≡ []
 unfolding All those
-those-none t [] a = refl
-those-none t (x ∷ xs) a = rw a.0 (those-none t xs a.1)
+those_none t [] a = refl
+those_none t (x ∷ xs) a = rw a.0 (those_none t xs a.1)
 
-pub those-length : (t : ℕ → Bool) (xs : List ℕ) → length (those t xs) ≤ length xs
+pub those_length : (t : ℕ → Bool) (xs : List ℕ) → length (those t xs) ≤ length xs
 unfolding those
-those-length t [] = omega arith
-those-length t (x ∷ xs) = go (t x) (those t xs) (those-length t xs)
+those_length t [] = omega arith
+those_length t (x ∷ xs) = go (t x) (those t xs) (those_length t xs)
   where
     go : (b : Bool) (ys : List ℕ) → length ys ≤ length xs → length (cons_if b x ys) ≤ suc (length xs)
     go true ys h = omega arith
     go false ys h = omega arith
 
 -- how often a number is left by a test: as often as it was there, or never
-pub count-those : (t : ℕ → Bool) (k : ℕ) (xs : List ℕ) → count k (those t xs) ≡ bit (t k) * count k xs
+pub count_those : (t : ℕ → Bool) (k : ℕ) (xs : List ℕ) → count k (those t xs) ≡ bit (t k) * count k xs
 unfolding those count
-count-those t k [] = omega arith
-count-those t k (x ∷ xs) = count-cons_if k x (t x) (those t xs) ∙ rw (count-those t k xs) (same (eqb x k) refl)
+count_those t k [] = omega arith
+count_those t k (x ∷ xs) = count_cons_if k x (t x) (those t xs) ∙ rw (count_those t k xs) (same (eqb x k) refl)
   where
     same : (b : Bool) → eqb x k ≡ b → bit (t x) * bit b + bit (t k) * count k xs ≡ bit (t k) * (bit b + count k xs)
     same true e = let f : bit (t x) ≡ bit (t k) = ap (λ (j : ℕ). bit (t j)) (eqb-true x k e) in omega arith
     same false e = omega arith
 
 -- the numbers up to n at which a test holds are those of all the numbers up to n
-pub those-keep : (t : ℕ → Bool) (n i : ℕ) → those t (keep (λ k. true) n i) ≡ keep t n i
+pub those_keep : (t : ℕ → Bool) (n i : ℕ) → those t (keep (λ k. true) n i) ≡ keep t n i
 unfolding those keep
-those-keep t zero i = refl
-those-keep t (suc n) i = ap (λ (xs : List ℕ). cons_if (t i) i xs) (those-keep t n (i + 1))
+those_keep t zero i = refl
+those_keep t (suc n) i = ap (λ (xs : List ℕ). cons_if (t i) i xs) (those_keep t n (i + 1))
 
 pub all_keep : (t : ℕ → Bool) (n i : ℕ) → All (λ x. x < i + n) (keep t n i)
 unfolding All keep

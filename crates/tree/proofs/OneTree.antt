@@ -6,7 +6,7 @@ use native.Mathlib.Omega.{arith}
 use native.Mathlib.Numerals.{add-one}
 use lib.ListN.{length, get_or, take, drop, length-append, drop_of_length-le, length-take}
 use lib.Seq.{drop-cons, get_or-take}
-use Rattle.room.proofs.Holds.{holds-drop, take-holds}
+use Rattle.room.proofs.Holds.{holds_drop, take_holds}
 use Rattle.varint.specs.Bytes.{Bytes}
 use Rattle.varint.specs.Leb128.{encode}
 use Rattle.varint.proofs.Answers.{read_onward}
@@ -35,7 +35,7 @@ module _ (bytes : List ℕ) (isBytes : Bytes bytes) where
       let r = read_stands 64 (take end bytes) p v next (bytes_take bytes end isBytes) e in
       let o = read_onward 64 (take end bytes) p v next e in
       record {
-        from = holds-drop bytes p (encode v) (take-holds bytes p end (encode v) (omega (arith, r.place, o.1, length-take end bytes)) r.stands) ∙ rw r.place;
+        from = holds_drop bytes p (encode v) (take_holds bytes p end (encode v) (omega (arith, r.place, o.1, length-take end bytes)) r.stands) ∙ rw r.place;
         long = r.place;
       }
 
@@ -89,5 +89,5 @@ module _ (bytes : List ℕ) (isBytes : Bytes bytes) where
       s.from ∙ rw (drop_of_length-le bytes {i = length bytes} (omega arith)) (append-nil (packed t))
 
 -- So two byte strings that read as one tree are one byte string.
-pub one-tree : (t : Tree) (bytes bytes' : List ℕ) → Bytes bytes → Bytes bytes' → node_reads bytes t 0 (length bytes) → node_reads bytes' t 0 (length bytes') → bytes ≡ bytes'
-one-tree t bytes bytes' is is' reads reads' = reads_packed bytes is t reads ∙ sym (reads_packed bytes' is' t reads')
+pub one_tree : (t : Tree) (bytes bytes' : List ℕ) → Bytes bytes → Bytes bytes' → node_reads bytes t 0 (length bytes) → node_reads bytes' t 0 (length bytes') → bytes ≡ bytes'
+one_tree t bytes bytes' is is' reads reads' = reads_packed bytes is t reads ∙ sym (reads_packed bytes' is' t reads')

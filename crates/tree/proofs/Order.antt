@@ -155,9 +155,9 @@ abbrev pub Numbered : (ℕ → Float) → ℕ → Type 0
 Numbered ring points = (k : ℕ) → k ≤ points - 1 → is_nan (spot_at ring k).y ≡ false
 
 -- each segment of a ring lies in the ring's box
-pub inside-ring : (ring : ℕ → Float) (points i : ℕ) → Numbered ring points → i + 1 < points → Inside ring (ring_box ring points) i
+pub inside_ring : (ring : ℕ → Float) (points i : ℕ) → Numbered ring points → i + 1 < points → Inside ring (ring_box ring points) i
 unfolding ring_box
-inside-ring ring points i plain h = (
+inside_ring ring points i plain h = (
   λ t. lt_not_le (low ring i) (least f n) t (lesser_either (λ z. T (le (least f n) z)) _ _ (under i (omega arith)) (subst (λ (k : ℕ). T (le (least f n) (ring k))) next (under (i + 1) (omega arith)))),
   λ t. lt_not_le (greatest f n) (high ring i) t (greater_either (λ z. T (le z (greatest f n))) _ _ (over i (omega arith)) (subst (λ (k : ℕ). T (le (ring k) (greatest f n))) next (over (i + 1) (omega arith)))),
 )

@@ -9,7 +9,7 @@ use lib.ListN.{length}
 use lib.Ieee.{Float, lt}
 use borrow.Author.Tests.{leb-false}
 use Rattle.room.specs.Numbers.{cons_if, bit, count}
-use Rattle.room.proofs.Count.{count-append}
+use Rattle.room.proofs.Count.{count_append}
 use Rattle.boxes.specs.declared.Rect.{Rect}
 use Rattle.boxes.specs.declared.Chosen.{Chosen}
 use Rattle.boxes.specs.Quads.{quadrant, quad_bounds, mid_x, mid_y}
@@ -17,7 +17,7 @@ use Rattle.boxes.specs.Segments.{box_of}
 use Rattle.rings.specs.Ring.{side_at}
 use Rattle.tree.specs.Tree.{max_items, Tree, leaf, split, those, goes_to, is_stayer, choice, stayers, goers, unless_empty, grown, in_order}
 use Rattle.tree.specs.All.{All}
-use Rattle.tree.proofs.Lists.{all_append, all_kept, count-those}
+use Rattle.tree.proofs.Lists.{all_append, all_kept, count_those}
 
 -- of the five ways exactly one is taken
 one_way : (w e s n : Bool)
@@ -51,7 +51,7 @@ module _ (ring : ℕ → Float) (box : Rect) where
   pub count_shares : (k : ℕ) (xs : List ℕ)
       → count k (stayers ring box xs) + (count k (goers ring box 0 xs) + count k (goers ring box 1 xs) + count k (goers ring box 2 xs) + count k (goers ring box 3 xs)) ≡ count k xs
   count_shares k xs =
-      rw (count-those (way is_stayer) k xs, count-those (way (goes_to 0)) k xs, count-those (way (goes_to 1)) k xs, count-those (way (goes_to 2)) k xs, count-those (way (goes_to 3)) k xs)
+      rw (count_those (way is_stayer) k xs, count_those (way (goes_to 0)) k xs, count_those (way (goes_to 1)) k xs, count_those (way (goes_to 2)) k xs, count_those (way (goes_to 3)) k xs)
       (omega (arith, ap (λ (z : ℕ). z * count k xs) (one_choice k)))
 
   pub length_shares : (xs : List ℕ)
@@ -85,17 +85,17 @@ unfolding in_order
 kid_count k [] t h = refl
 kid_count k (y ∷ ys) t h = h
 
-count-split : (k : ℕ) (ring : ℕ → Float) (box : Rect) (xs : List ℕ) (f : ℕ → Tree) → ((q : ℕ) → count k (in_order (f q)) ≡ count k (goers ring box q xs))
+count_split : (k : ℕ) (ring : ℕ → Float) (box : Rect) (xs : List ℕ) (f : ℕ → Tree) → ((q : ℕ) → count k (in_order (f q)) ≡ count k (goers ring box q xs))
     → count k (in_order (split (stayers ring box xs) f)) ≡ count k xs
 unfolding in_order
-count-split k ring box xs f h = simp count-append (omega (arith, h 0, h 1, h 2, h 3, count_shares ring box k xs))
+count_split k ring box xs f h = simp count_append (omega (arith, h 0, h 1, h 2, h 3, count_shares ring box k xs))
 
-pub count-grown : (k : ℕ) (ring : ℕ → Float) (left : ℕ) (box : Rect) (xs : List ℕ) → count k (in_order (grown ring left box xs)) ≡ count k xs
+pub count_grown : (k : ℕ) (ring : ℕ → Float) (left : ℕ) (box : Rect) (xs : List ℕ) → count k (in_order (grown ring left box xs)) ≡ count k xs
 unfolding in_order grown
-count-grown k ring zero box xs = refl
-count-grown k ring (suc left) box xs =
+count_grown k ring zero box xs = refl
+count_grown k ring (suc left) box xs =
     grown_cases (λ t. count k (in_order t) ≡ count k xs) ring left box xs refl
-    (λ h. count-split k ring box xs (kid_of ring left box xs) (λ q. kid_count k (goers ring box q xs) (grown ring left (quad_bounds box q) (goers ring box q xs)) (count-grown k ring left (quad_bounds box q) (goers ring box q xs))))
+    (λ h. count_split k ring box xs (kid_of ring left box xs) (λ q. kid_count k (goers ring box q xs) (grown ring left (quad_bounds box q) (goers ring box q xs)) (count_grown k ring left (quad_bounds box q) (goers ring box q xs))))
 
 -- ---- what holds of each segment that arrives holds of each that the tree holds
 kid_all : (P : ℕ → Type 0) (ys : List ℕ) (t : Tree) → All P (in_order t) → All P (in_order (unless_empty ys t))

@@ -36,9 +36,9 @@ greatest_coordinate f (suc n) c = greater_either Coordinate (greatest f n) (f (s
 
 -- a segment's box, and the ring's
 module _ (ring : ℕ → Float) (points : ℕ) (stored : (k : ℕ) → k < points * 2 → Coordinate (ring k)) (some : 0 < points) where
-  ring-placed : Placed (ring_box ring points)
+  ring_placed : Placed (ring_box ring points)
   unfolding ring_box
-  ring-placed =
+  ring_placed =
       record {
         left = least_coordinate (λ i. (spot_at ring i).x) (points - 1) (λ k h. stored (k * 2) (omega arith));
         low = least_coordinate (λ i. (spot_at ring i).y) (points - 1) (λ k h. stored (k * 2 + 1) (omega arith));
@@ -51,7 +51,7 @@ module _ (ring : ℕ → Float) (points : ℕ) (stored : (k : ℕ) → k < point
   by_the_words qs i h =
       let b = box_at (ring_box ring points) qs in
       let r = box_of (side_at ring i) in
-      let p = placed_at (ring_box ring points) qs ring-placed in
+      let p = placed_at (ring_box ring points) qs ring_placed in
       as_written b r
       (coordinate_number (mid_x b) (middle_coordinate b.min.x b.max.x p.left p.right)).1
       (coordinate_number (mid_y b) (middle_coordinate b.min.y b.max.y p.low p.high)).1

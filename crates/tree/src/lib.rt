@@ -1,4 +1,6 @@
 // The packed tree of a ring: its limits, and the box that its root has.
+#![tactic(auto)]
+
 ghost use Rattle.std.specs.Prelude.{◌≡◌, ◌+◌, ◌*◌, ◌<◌, ◌≤◌, length};
 ghost use Rattle.rings.specs.Ring.{wide};
 ghost use Rattle.tree.specs.Tree.{least, greatest, quad_tree_of};

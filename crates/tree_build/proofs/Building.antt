@@ -15,7 +15,7 @@ use Rattle.room.specs.Room.{write, pad}
 use Rattle.room.specs.Numbers.{keep, up_to}
 use Rattle.room.proofs.Cases.{lt_or}
 use Rattle.room.proofs.Write.{write_eq}
-use Rattle.room.proofs.Fill.{write-pad}
+use Rattle.room.proofs.Fill.{write_pad}
 use Rattle.room.proofs.UpTo.{up_to_yes, up_to_done}
 use Rattle.boxes.specs.declared.Rect.{Rect}
 use Rattle.rings.specs.declared.Checked.{Checked}
@@ -39,14 +39,14 @@ use Rattle.tree_build.proofs.Standing.{Stood, standing}
 abbrev pub all_up_to : ℕ → ℕ → List ℕ
 all_up_to n i = up_to (λ k. true) n i
 
-keep-length : (n i : ℕ) → length (keep (λ k. true) n i) ≡ n
+keep_length : (n i : ℕ) → length (keep (λ k. true) n i) ≡ n
 unfolding keep
-keep-length zero i = refl
-keep-length (suc n) i = ap suc (keep-length n (i + 1))
+keep_length zero i = refl
+keep_length (suc n) i = ap suc (keep_length n (i + 1))
 
 all_length : (n : ℕ) → length (all_up_to n 0) ≡ n
 unfolding up_to
-all_length n = keep-length (n - 0) 0 ∙ (let e : n - 0 ≡ n = omega arith in e)
+all_length n = keep_length (n - 0) 0 ∙ (let e : n - 0 ≡ n = omega arith in e)
 
 -- how far the numbering came
 pub record Numbering (run₀ run : List ℕ) (i : ℕ) : Type 0 where
@@ -78,14 +78,14 @@ all_readable long points few sizes =
 
 -- ---- the bytes where there is room for them
 module _ (bs b : List ℕ) (size : ℕ) (same : size ≡ length bs) (zeros : b ≡ replicate (length b) 0) where
-  pub put-short : length b < size → put bs (length b) ≡ (TreeRefused NoRoom, b)
+  pub put_short : length b < size → put bs (length b) ≡ (TreeRefused NoRoom, b)
   unfolding put
-  put-short h = rw (lt-leb (length bs) (length b) (omega arith)) (ap (λ (x : List ℕ). (TreeRefused NoRoom, x)) (sym zeros))
+  put_short h = rw (lt-leb (length bs) (length b) (omega arith)) (ap (λ (x : List ℕ). (TreeRefused NoRoom, x)) (sym zeros))
 
-  pub put-fits : size ≤ length b → (b' : List ℕ) → b' ≡ write b 0 bs → put bs (length b) ≡ (Packed size, b')
+  pub put_fits : size ≤ length b → (b' : List ℕ) → b' ≡ write b 0 bs → put bs (length b) ≡ (Packed size, b')
   unfolding put
-  put-fits h b' w =
-      let e : b' ≡ pad (length b) bs = w ∙ ap (λ (x : List ℕ). write x 0 bs) zeros ∙ write-pad (length b) bs (omega arith) in
+  put_fits h b' w =
+      let e : b' ≡ pad (length b) bs = w ∙ ap (λ (x : List ℕ). write x 0 bs) zeros ∙ write_pad (length b) bs (omega arith) in
       rw (le-leb (length bs) (length b) (omega arith)) (ap₂ (λ (k : ℕ) (x : List ℕ). (Packed k, x)) (sym same) (sym e))
 
 -- ---- growing
@@ -115,23 +115,23 @@ module _ (ring : ℕ → Float) (points : ℕ) (box : Rect) (eb : box ≡ ring_b
     pub grown_ready : (n : ℕ) → r ≡ Nodes n → Ready (tree_of ring points) run' rest'
     grown_ready n e = rw tree_is at (ready (grown ring max_depth box run) (standing ring max_depth box run) rest n run' rest' (rw e at g))
 
-    pub grown-put : (n : ℕ) → r ≡ Nodes n → put_grown (tree_of ring points) (length rest) (length b) ≡ put (node_of 64 run' rest').0 (length b)
+    pub grown_put : (n : ℕ) → r ≡ Nodes n → put_grown (tree_of ring points) (length rest) (length b) ≡ put (node_of 64 run' rest').0 (length b)
     unfolding put_grown
-    grown-put n e =
+    grown_put n e =
         let q : Rooted (tree_of ring points) rest n run' rest' = rw (e, tree_is) at g in
         rw (le-leb (6 * nodes (tree_of ring points)) (length rest) q.fits, (grown_ready n e).bytes) refl
 
 -- ---- from the work room
 module _ (ring : ℕ → Float) (points : ℕ) (bytes work : List ℕ) where
-  pub packed-short : length work < points - 1 → packed_in ring points bytes work ≡ zeroed (TreeRefused NoRoom) bytes work
+  pub packed_short : length work < points - 1 → packed_in ring points bytes work ≡ zeroed (TreeRefused NoRoom) bytes work
   unfolding packed_in
-  packed-short h = rw (lt-leb (work_numbers ring points) (length work) (omega arith))
+  packed_short h = rw (lt-leb (work_numbers ring points) (length work) (omega arith))
 
   -- the nodes have what the segments leave
-  pub packed-rest : points - 1 ≤ length work → (k : ℕ) → k ≡ length work - (points - 1)
+  pub packed_rest : points - 1 ≤ length work → (k : ℕ) → k ≡ length work - (points - 1)
       → packed_in ring points bytes work ≡ ((put_grown (tree_of ring points) k (length bytes)).0, (put_grown (tree_of ring points) k (length bytes)).1, replicate (length work) 0)
   unfolding packed_in put_grown put
-  packed-rest h k e =
+  packed_rest h k e =
       ⊎_elim
       (λ (no : k < 6 * nodes (tree_of ring points)).
       rw (lt-leb (work_numbers ring points) (length work) (omega arith), lt-leb (6 * nodes (tree_of ring points)) k no) refl)
@@ -154,9 +154,9 @@ unfolding packed_in
 packed_room ring points b b' w w' e f = rw (e, f)
 
 module _ (ring : ℕ → Float) (points threshold : ℕ) (bytes work : List ℕ) where
-  pub from-under : points - 1 < threshold → from_threshold ring points threshold bytes work ≡ zeroed Unpacked bytes work
+  pub from_under : points - 1 < threshold → from_threshold ring points threshold bytes work ≡ zeroed Unpacked bytes work
   unfolding from_threshold
-  from-under h = rw (lt-ltb (segments points) threshold h)
+  from_under h = rw (lt-ltb (segments points) threshold h)
 
   pub from_reached : threshold ≤ points - 1 → from_threshold ring points threshold bytes work ≡ packed_in ring points bytes work
   unfolding from_threshold
@@ -172,8 +172,8 @@ module _ (ring : ℕ → Float) (points threshold : ℕ) (bytes work : List ℕ)
     built_sound e = rw e
 
 -- ---- lent parts
-pub rest-length : (n : ℕ) (l : List ℕ) → length (take (length l - n) (drop n l)) ≡ length l - n
-rest-length n l = simp (length-take, length-drop) (omega arith)
+pub rest_length : (n : ℕ) (l : List ℕ) → length (take (length l - n) (drop n l)) ≡ length l - n
+rest_length n l = simp (length-take, length-drop) (omega arith)
 
 pub readable_run : (long points : ℕ) (run : List ℕ) → run ≡ all_segments points → points ≤ 4097 → points * 2 ≡ long → All (Readable long) run
 readable_run long points run e few sizes = rw e (all_readable long points few sizes)

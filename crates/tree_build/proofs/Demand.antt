@@ -23,7 +23,7 @@ use Rattle.tree.specs.Tree.{those, in_order, tree_of, ring_box, work_numbers}
 use Rattle.tree.specs.Search.{ends, searched}
 use Rattle.tree.proofs.Order.{Numbered}
 use Rattle.tree.proofs.Searchable.{Searchable}
-use Rattle.tree.proofs.Demand.{tree-found, tree_lists, tree_lists_length, tree_lists_once}
+use Rattle.tree.proofs.Demand.{tree_found, tree_lists, tree_lists_length, tree_lists_once}
 use Rattle.cast_test.specs.Test.{scan_test, scan_tested_by}
 use Rattle.cast_test.proofs.Scan.{tested_checked}
 use Rattle.tree_find.specs.Find.{answered, tree_listed_by, tree_tested_by}
@@ -132,7 +132,7 @@ module _ (checked : Checked) (ring : ℕ → Float) (points threshold : ℕ) (se
 
   -- in node order
   pub finds_in_order : (y : Float) → found y ≡ those (λ i. holds_height (side_at ring i) y) (in_order (tree_of ring points))
-  finds_in_order y = of_tree y ∙ (tree-found ring points y few plain).0
+  finds_in_order y = of_tree y ∙ (tree_found ring points y few plain).0
 
   -- The list call gives just these, in the room or refused for want of it. `ends 0` says only that nothing is refused: the answer is the same at
   -- any place.

@@ -34,18 +34,18 @@ unfolding in_order
 kid_length [] t h = refl
 kid_length (y ∷ ys) t h = h
 
-split-length : (ring : ℕ → Float) (box : Rect) (xs : List ℕ) (f : ℕ → Tree) → ((q : ℕ) → length (in_order (f q)) ≡ length (goers ring box q xs))
+split_length : (ring : ℕ → Float) (box : Rect) (xs : List ℕ) (f : ℕ → Tree) → ((q : ℕ) → length (in_order (f q)) ≡ length (goers ring box q xs))
     → length (in_order (split (stayers ring box xs) f)) ≡ length xs
 unfolding in_order
-split-length ring box xs f h = simp length-append (omega (arith, h 0, h 1, h 2, h 3, length_shares ring box xs))
+split_length ring box xs f h = simp length-append (omega (arith, h 0, h 1, h 2, h 3, length_shares ring box xs))
 
-pub grown-length : (ring : ℕ → Float) (left : ℕ) (box : Rect) (xs : List ℕ) → length (in_order (grown ring left box xs)) ≡ length xs
+pub grown_length : (ring : ℕ → Float) (left : ℕ) (box : Rect) (xs : List ℕ) → length (in_order (grown ring left box xs)) ≡ length xs
 unfolding in_order grown
-grown-length ring zero box xs = refl
-grown-length ring (suc left) box xs =
+grown_length ring zero box xs = refl
+grown_length ring (suc left) box xs =
     by_cases (λ t. length (in_order t) ≡ length xs) ring left box xs (λ h. refl)
-    (λ h. split-length ring box xs (kid_of ring left box xs)
-    (λ q. kid_length (goers ring box q xs) (grown ring left (quad_bounds box q) (goers ring box q xs)) (grown-length ring left (quad_bounds box q) (goers ring box q xs))))
+    (λ h. split_length ring box xs (kid_of ring left box xs)
+    (λ q. kid_length (goers ring box q xs) (grown ring left (quad_bounds box q) (goers ring box q xs)) (grown_length ring left (quad_bounds box q) (goers ring box q xs))))
 
 -- ---- a node and its records, with anything behind them
 pub record Stood (left : ℕ) (t : Tree) : Type 0 where
@@ -163,5 +163,5 @@ standing ring zero box xs = stood_deepest xs
 standing ring (suc left) box xs =
     by_cases (Stood (suc left)) ring left box xs (stood_few left xs)
     (λ h. stood_split left (stayers ring box xs) (kid_of ring left box xs)
-    (omega (arith, h, split-length ring box xs (kid_of ring left box xs) (λ q. kid_length (goers ring box q xs) _ (grown-length ring left (quad_bounds box q) (goers ring box q xs)))))
-    (λ q. quad_kid left (goers ring box q xs) (grown ring left (quad_bounds box q) (goers ring box q xs)) (standing ring left (quad_bounds box q) (goers ring box q xs)) (grown-length ring left (quad_bounds box q) (goers ring box q xs))))
+    (omega (arith, h, split_length ring box xs (kid_of ring left box xs) (λ q. kid_length (goers ring box q xs) _ (grown_length ring left (quad_bounds box q) (goers ring box q xs)))))
+    (λ q. quad_kid left (goers ring box q xs) (grown ring left (quad_bounds box q) (goers ring box q xs)) (standing ring left (quad_bounds box q) (goers ring box q xs)) (grown_length ring left (quad_bounds box q) (goers ring box q xs))))

@@ -1,4 +1,6 @@
 // Builds the packed tree of a ring in lent room.
+#![tactic(auto)]
+
 ghost use Rattle.std.specs.Prelude.{◌≡◌, true, ◌-◌, ◌*◌, ◌<◌, ◌≤◌, length, replicate, get_or};
 ghost use Rattle.room.specs.Numbers.{up_to};
 ghost use Rattle.rings.specs.Ring.{wide};

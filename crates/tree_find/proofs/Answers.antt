@@ -25,7 +25,7 @@ use Rattle.rings.specs.Checks.{when_sound}
 use Rattle.rings.specs.RingTest.{test_from}
 use Rattle.room.specs.Room.{write}
 use Rattle.room.proofs.Cases.{lt_or}
-use Rattle.room.proofs.Fill.{write-pad}
+use Rattle.room.proofs.Fill.{write_pad}
 use Rattle.cast_test.specs.Test.{cast_at, is_on, is_inside}
 use Rattle.tree.specs.Search.{Found, End, ends, fails, searched}
 use Rattle.tree.specs.Tree.{ring_box}
@@ -48,19 +48,19 @@ test_later ring points bytes p edge = cond (finite p.x && finite p.y) (verdict r
 abbrev more : Seen → ℕ → Seen
 more s n = record { count = s.count + n; on = s.on; inside = s.inside }
 
-list-fits : (xs : List ℕ) (e : End) (s : Seen) (o : List ℕ) → s.count + length xs ≤ length o → poured list_step xs e s o ≡ (shown e (more s (length xs)), write o s.count xs)
+list_fits : (xs : List ℕ) (e : End) (s : Seen) (o : List ℕ) → s.count + length xs ≤ length o → poured list_step xs e s o ≡ (shown e (more s (length xs)), write o s.count xs)
 unfolding poured onward list_step write
-list-fits [] e s o h = ap (λ (n : ℕ). (shown e (record { count = n; on = s.on; inside = s.inside }), o)) (sym (add-zero s.count))
-list-fits (x ∷ xs) e s o h =
+list_fits [] e s o h = ap (λ (n : ℕ). (shown e (record { count = n; on = s.on; inside = s.inside }), o)) (sym (add-zero s.count))
+list_fits (x ∷ xs) e s o h =
     rw (lt-ltb s.count (length o) (omega arith))
-    (list-fits xs e (more s 1) (set o s.count x) (simp length-set (omega arith))
+    (list_fits xs e (more s 1) (set o s.count x) (simp length-set (omega arith))
     ∙ ap (λ (n : ℕ). (shown e (record { count = n; on = s.on; inside = s.inside }), write (set o s.count x) (s.count + 1) xs)) (omega arith))
 
-list-short : (xs : List ℕ) (e : End) (s : Seen) (o : List ℕ) → s.count ≤ length o → length o < s.count + length xs → (poured list_step xs e s o).0 ≡ Stopped NoRoom
+list_short : (xs : List ℕ) (e : End) (s : Seen) (o : List ℕ) → s.count ≤ length o → length o < s.count + length xs → (poured list_step xs e s o).0 ≡ Stopped NoRoom
 unfolding poured onward list_step
-list-short [] e s o l h = absurd (omega arith)
-list-short (x ∷ xs) e s o l h =
-    ⊎_elim (λ lt. rw (lt-ltb s.count (length o) lt) (list-short xs e (more s 1) (set o s.count x) (simp length-set (omega arith)) (simp length-set (omega arith))))
+list_short [] e s o l h = absurd (omega arith)
+list_short (x ∷ xs) e s o l h =
+    ⊎_elim (λ lt. rw (lt-ltb s.count (length o) lt) (list_short xs e (more s 1) (set o s.count x) (simp length-set (omega arith)) (simp length-set (omega arith))))
     (λ ge. rw (le-ltb s.count (length o) ge)) (lt_or s.count (length o))
 
 -- what a finished search says of the answer
@@ -68,29 +68,29 @@ abbrev Says : ℕ → Found → Out → Type 0
 Says n f (Reached p s, o) = answered n f ≡ (TreeFound s.count, o)
 Says n f (Stopped why, o) = answered n f ≡ (TreeUnlisted why, replicate n 0)
 
-fits-says : (n : ℕ) (xs : List ℕ) (e : End) → length xs ≤ n → Says n (xs, e) (shown e (more start (length xs)), write (replicate n 0) 0 xs)
+fits_says : (n : ℕ) (xs : List ℕ) (e : End) → length xs ≤ n → Says n (xs, e) (shown e (more start (length xs)), write (replicate n 0) 0 xs)
 unfolding answered
-fits-says n xs (ends p) h = rw (le-leb (length xs) n h) (ap₂ (λ (k : ℕ) (o : List ℕ). (TreeFound k, o)) (sym (zero-add (length xs))) (sym (write-pad n xs h)))
-fits-says n xs (fails why) h = rw (le-leb (length xs) n h)
+fits_says n xs (ends p) h = rw (le-leb (length xs) n h) (ap₂ (λ (k : ℕ) (o : List ℕ). (TreeFound k, o)) (sym (zero-add (length xs))) (sym (write_pad n xs h)))
+fits_says n xs (fails why) h = rw (le-leb (length xs) n h)
 
-short-says : (n : ℕ) (xs : List ℕ) (e : End) (x : Out) → n < length xs → x.0 ≡ Stopped NoRoom → Says n (xs, e) x
+short_says : (n : ℕ) (xs : List ℕ) (e : End) (x : Out) → n < length xs → x.0 ≡ Stopped NoRoom → Says n (xs, e) x
 unfolding answered
-short-says n xs e (Reached p s, o) h k = absurd (let z : ◌≡◌ {A = ℕ} 0 1 = cc in omega arith)
-short-says n xs e (Stopped why, o) h k = let w : NoRoom ≡ why = cc in rw (lt-leb (length xs) n h, w)
+short_says n xs e (Reached p s, o) h k = absurd (let z : ◌≡◌ {A = ℕ} 0 1 = cc in omega arith)
+short_says n xs e (Stopped why, o) h k = let w : NoRoom ≡ why = cc in rw (lt-leb (length xs) n h, w)
 
-pub list-says : (n : ℕ) (f : Found) → Says n f (pour list_step f start (replicate n 0))
-list-says n (xs, e) =
+pub list_says : (n : ℕ) (f : Found) → Says n f (pour list_step f start (replicate n 0))
+list_says n (xs, e) =
     ⊎_elim
-    (λ (lt : n < length xs). short-says n xs e _ lt (list-short xs e start (replicate n 0) (omega arith) (simp length-replicate (omega arith))))
-    (λ (ge : length xs ≤ n). rw (list-fits xs e start (replicate n 0) (simp length-replicate (omega arith))) (fits-says n xs e ge))
+    (λ (lt : n < length xs). short_says n xs e _ lt (list_short xs e start (replicate n 0) (omega arith) (simp length-replicate (omega arith))))
+    (λ (ge : length xs ≤ n). rw (list_fits xs e start (replicate n 0) (simp length-replicate (omega arith))) (fits_says n xs e ge))
     (lt_or n (length xs))
 
 -- in the form in which the code meets it
 pub list_reached : (n : ℕ) (f : Found) (p : ℕ) (s : Seen) (o : List ℕ) → pour list_step f start (replicate n 0) ≡ (Reached p s, o) → answered n f ≡ (TreeFound s.count, o)
-list_reached n f p s o e = rw e at (list-says n f)
+list_reached n f p s o e = rw e at (list_says n f)
 
 pub list_stopped : (n : ℕ) (f : Found) (why : Refusal) (o : List ℕ) → pour list_step f start (replicate n 0) ≡ (Stopped why, o) → answered n f ≡ (TreeUnlisted why, replicate n 0)
-list_stopped n f why o e = rw e at (list-says n f)
+list_stopped n f why o e = rw e at (list_says n f)
 
 -- ---- ring tests
 module _ (ring : ℕ → Float) (p : Point) (edge : Bool) where

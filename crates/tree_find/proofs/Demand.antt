@@ -19,7 +19,7 @@ use Rattle.tree.specs.Tree.{those, in_order, packed, tree_of}
 use Rattle.tree.specs.Search.{Found, ends, fails}
 use Rattle.tree.proofs.AnyOrder.{any_order}
 use Rattle.tree.proofs.Searchable.{Searchable}
-use Rattle.tree.proofs.Demand.{Whole, tree_search, tree-found, tree_lists}
+use Rattle.tree.proofs.Demand.{Whole, tree_search, tree_found, tree_lists}
 use Rattle.tree_find.specs.Find.{answered, tree_listed_by, verdict, tree_tested_by}
 use Rattle.tree_find.proofs.Answers.{listed_sound, tested_sound, tested_unfit}
 
@@ -32,10 +32,10 @@ any_end : (n : ℕ) (xs : List ℕ) (p q : ℕ) → answered n (xs, ends p) ≡ 
 unfolding answered
 any_end n xs p q = refl
 
-whole-verdict : (ring : ℕ → Float) (p : Point) (edge : Bool) (f : Found) → Whole f.1 → verdict ring p edge f ≡ said (test_of ring p edge f.0)
+whole_verdict : (ring : ℕ → Float) (p : Point) (edge : Bool) (f : Found) → Whole f.1 → verdict ring p edge f ≡ said (test_of ring p edge f.0)
 unfolding verdict
-whole-verdict ring p edge (xs, ends q) w = refl
-whole-verdict ring p edge (xs, fails why) w = absurd w
+whole_verdict ring p edge (xs, ends q) w = refl
+whole_verdict ring p edge (xs, fails why) w = absurd w
 
 module _ (checked : Checked) (ring : ℕ → Float) (points : ℕ) (searchable : Searchable checked ring points) (sound : checked ≡ Sound) where
   -- The list call: the segments of the ring that hold y, in node order, in the room or refused for want of it. `ends 0` says only that nothing is
@@ -44,7 +44,7 @@ module _ (checked : Checked) (ring : ℕ → Float) (points : ℕ) (searchable :
       → tree_listed_by checked ring points (packed (tree_of ring points)) y room
       ≡ answered (length room) (those (λ i. holds_height (side_at ring i) y) (in_order (tree_of ring points)), ends 0)
   lists_all y room f =
-      let t = tree-found ring points y (searchable.few sound) (searchable.plain sound) in
+      let t = tree_found ring points y (searchable.few sound) (searchable.plain sound) in
       let w = whole (tree_search ring points y) t.1 in
       listed_sound checked ring points (packed (tree_of ring points)) y room sound f
       ∙ ap (answered (length room)) w.1
@@ -61,7 +61,7 @@ module _ (checked : Checked) (ring : ℕ → Float) (points : ℕ) (searchable :
       go true e =
           let few = searchable.few sound in let plain = searchable.plain sound in
           sym (tested_sound checked ring points (packed (tree_of ring points)) p edge sound e)
-          ∙ whole-verdict ring p edge (tree_search ring points p.y) (tree-found ring points p.y few plain).1
+          ∙ whole_verdict ring p edge (tree_search ring points p.y) (tree_found ring points p.y few plain).1
           ∙ ap said (any_order (λ i. is_on (cast_at ring i p)) (λ i. is_inside (cast_at ring i p)) edge (tree_search ring points p.y).0 (meeting ring points p.y) (tree_lists ring points p.y few plain) false)
       go false e = sym (tested_unfit checked ring points (packed (tree_of ring points)) p edge sound e)
 

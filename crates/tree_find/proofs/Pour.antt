@@ -22,9 +22,9 @@ pub then_go : (x : Out) (f : ℕ → Seen → List ℕ → Out) (p : ℕ) (s : S
 unfolding then
 then_go x f p s o e = rw e
 
-pub then-stop : (x : Out) (f : ℕ → Seen → List ℕ → Out) (why : Refusal) (o : List ℕ) → x ≡ (Stopped why, o) → then x f ≡ (Stopped why, o)
+pub then_stop : (x : Out) (f : ℕ → Seen → List ℕ → Out) (why : Refusal) (o : List ℕ) → x ≡ (Stopped why, o) → then x f ≡ (Stopped why, o)
 unfolding then
-then-stop x f why o e = rw e
+then_stop x f why o e = rw e
 
 onward_then : (x : Taking) (f : Seen → List ℕ → Out) (g : ℕ → Seen → List ℕ → Out) → then (onward x f) g ≡ onward x (λ s o. then (f s o) g)
 unfolding then onward
@@ -45,15 +45,15 @@ module _ (step : Step) where
       onward_ext (step x s o) (λ s' o'. poured step (xs ++ (f p).0) (f p).1 s' o') (λ s' o'. then (poured step xs (ends p) s' o') (λ q s'' o''. pour step (f q) s'' o'')) (pour_on xs p f)
       ∙ sym (onward_then (step x s o) (λ s' o'. poured step xs (ends p) s' o') (λ q s'' o''. pour step (f q) s'' o''))
 
-  pour-fails : (xs : List ℕ) (why : Refusal) (s : Seen) (o : List ℕ) (f : ℕ → Seen → List ℕ → Out) → then (poured step xs (fails why) s o) f ≡ poured step xs (fails why) s o
+  pour_fails : (xs : List ℕ) (why : Refusal) (s : Seen) (o : List ℕ) (f : ℕ → Seen → List ℕ → Out) → then (poured step xs (fails why) s o) f ≡ poured step xs (fails why) s o
   unfolding poured then
-  pour-fails [] why s o f = refl
-  pour-fails (x ∷ xs) why s o f =
+  pour_fails [] why s o f = refl
+  pour_fails (x ∷ xs) why s o f =
       onward_then (step x s o) (λ s' o'. poured step xs (fails why) s' o') f
-      ∙ onward_ext (step x s o) (λ s' o'. then (poured step xs (fails why) s' o') f) (λ s' o'. poured step xs (fails why) s' o') (λ s' o'. pour-fails xs why s' o' f)
+      ∙ onward_ext (step x s o) (λ s' o'. then (poured step xs (fails why) s' o') f) (λ s' o'. poured step xs (fails why) s' o') (λ s' o'. pour_fails xs why s' o' f)
 
   -- one reading after another
-  pub pour-after : (x : Found) (f : ℕ → Found) (s : Seen) (o : List ℕ) → pour step (after x f) s o ≡ then (pour step x s o) (λ p s' o'. pour step (f p) s' o')
+  pub pour_after : (x : Found) (f : ℕ → Found) (s : Seen) (o : List ℕ) → pour step (after x f) s o ≡ then (pour step x s o) (λ p s' o'. pour step (f p) s' o')
   unfolding after
-  pour-after (xs, ends p) f s o = pour_on xs p f s o
-  pour-after (xs, fails why) f s o = sym (pour-fails xs why s o _)
+  pour_after (xs, ends p) f s o = pour_on xs p f s o
+  pour_after (xs, fails why) f s o = sym (pour_fails xs why s o _)

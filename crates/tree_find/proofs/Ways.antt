@@ -28,7 +28,7 @@ use Rattle.tree_find.specs.declared.Seen.{Seen}
 use Rattle.tree_find.specs.declared.Taken.TheVariants.{Kept, Overfull}
 use Rattle.tree_find.specs.declared.Walk.TheVariants.{Reached, Stopped}
 use Rattle.tree_find.specs.Inner.Walks.{Step, Out, cast, unless_on, tested_of, step_if, onward, poured, pour, then, finish_of, below, children_from, children_to}
-use Rattle.tree_find.proofs.Pour.{pour-after}
+use Rattle.tree_find.proofs.Pour.{pour_after}
 
 module _ (step : Step) (bytes : List ℕ) (ring : ℕ → Float) (segments : ℕ) (y : Float) where
   abbrev reads : ℕ → ℕ → ReadUvarint
@@ -104,9 +104,9 @@ module _ (step : Step) (bytes : List ℕ) (ring : ℕ → Float) (segments : ℕ
     child_unread why e = rw e
 
     module _ (size from : ℕ) (e : reads end p ≡ Value size from) where
-      pub child-none : size ≡ 0 → pour step (child bytes ring segments y deepest visit box end q p) s o ≡ (Reached from s, o)
+      pub child_none : size ≡ 0 → pour step (child bytes ring segments y deepest visit box end q p) s o ≡ (Reached from s, o)
       unfolding child poured
-      child-none a = rw (e, eq-eqb size 0 a)
+      child_none a = rw (e, eq-eqb size 0 a)
 
       pub child_deep : (size ≡ 0 → ⊥) → deepest ≡ true → pour step (child bytes ring segments y deepest visit box end q p) s o ≡ (Stopped (Damaged p), o)
       unfolding child poured
@@ -138,21 +138,21 @@ module _ (step : Step) (bytes : List ℕ) (ring : ℕ → Float) (segments : ℕ
     unfolding children_to children_from
     kids_more q p s o h =
         let e : 4 - q ≡ suc (4 - (q + 1)) = omega arith in
-        rw e (pour-after step (child bytes ring segments y deepest visit box end q p) (λ p'. children_from bytes ring segments y deepest visit box end (4 - (q + 1)) (q + 1) p') s o)
+        rw e (pour_after step (child bytes ring segments y deepest visit box end q p) (λ p'. children_from bytes ring segments y deepest visit box end (4 - (q + 1)) (q + 1) p') s o)
 
     module _ (p : ℕ) (s : Seen) (o : List ℕ) where
       pub split_missing : end ≤ p → pour step (after_own bytes ring segments y deepest visit box end p) s o ≡ (Stopped (Damaged p), o)
       unfolding after_own poured
       split_missing a = rw (le-ltb p end a)
 
-      pub split-leaf : p < end → get_or bytes p 0 ≡ 0 → pour step (after_own bytes ring segments y deepest visit box end p) s o ≡ (finish_of end (p + 1) s, o)
+      pub split_leaf : p < end → get_or bytes p 0 ≡ 0 → pour step (after_own bytes ring segments y deepest visit box end p) s o ≡ (finish_of end (p + 1) s, o)
       unfolding after_own
-      split-leaf a b = rw (lt-ltb p end a, b) (finish_is end (p + 1) s o)
+      split_leaf a b = rw (lt-ltb p end a, b) (finish_is end (p + 1) s o)
 
-      pub split-kids : p < end → get_or bytes p 0 ≡ 1
+      pub split_kids : p < end → get_or bytes p 0 ≡ 1
           → pour step (after_own bytes ring segments y deepest visit box end p) s o ≡ pour step (children_to bytes ring segments y deepest visit box end 0 (p + 1)) s o
       unfolding after_own children children_to children_from
-      split-kids a b = rw (lt-ltb p end a, b)
+      split_kids a b = rw (lt-ltb p end a, b)
 
       pub split_bad : p < end → (get_or bytes p 0 ≡ 0 → ⊥) → (get_or bytes p 0 ≡ 1 → ⊥) → pour step (after_own bytes ring segments y deepest visit box end p) s o ≡ (Stopped (Damaged p), o)
       unfolding after_own poured
@@ -169,14 +169,14 @@ module _ (step : Step) (bytes : List ℕ) (ring : ℕ → Float) (segments : ℕ
       → pour step (node bytes ring segments y left box p end) s o
       ≡ then (pour step (own bytes ring segments y end p) s o) (λ p' s' o'. pour step (after_own bytes ring segments y (eqb left 0) (below bytes ring segments y left) box end p') s' o')
   unfolding node node_with below
-  node_step zero box p end s o = pour-after step (own bytes ring segments y end p) _ s o
+  node_step zero box p end s o = pour_after step (own bytes ring segments y end p) _ s o
   node_step (suc left) box p end s o =
-      rw (ne_eqb (suc left) 0 (λ e. omega arith)) (pour-after step (own bytes ring segments y end p) (after_own bytes ring segments y false (node bytes ring segments y left) box end) s o)
+      rw (ne_eqb (suc left) 0 (λ e. omega arith)) (pour_after step (own bytes ring segments y end p) (after_own bytes ring segments y false (node bytes ring segments y left) box end) s o)
 
-  pub below-node : (left : ℕ) (box : Rect) (p end : ℕ) → (left ≡ 0 → ⊥) → below bytes ring segments y left box p end ≡ node bytes ring segments y (left - 1) box p end
+  pub below_node : (left : ℕ) (box : Rect) (p end : ℕ) → (left ≡ 0 → ⊥) → below bytes ring segments y left box p end ≡ node bytes ring segments y (left - 1) box p end
   unfolding below
-  below-node zero box p end h = absurd (h refl)
-  below-node (suc left) box p end h = rw sub-one
+  below_node zero box p end h = absurd (h refl)
+  below_node (suc left) box p end h = rw sub-one
 
   -- ---- the search
   pub search_none : (box : Rect) (s : Seen) (o : List ℕ) → meets_height box y ≡ false → pour step (searched bytes ring segments y box) s o ≡ (Reached 0 s, o)
@@ -226,6 +226,6 @@ module _ (step : Step) (bytes : List ℕ) (ring : ℕ → Float) (segments : ℕ
     quad_visit r f n =
         child_visit step bytes ring segments y (eqb left 0) (below bytes ring segments y left) box end q p s o size from e a (ne_eqb left 0 deep) there
         (ap (λ (b : Rect). meets_height b y) (sym i) ∙ sym meets ∙ f)
-        ∙ ap (λ (z : Found). pour step z s o) (below-node step bytes ring segments y left (quad_bounds box q) from (from + size) deep)
+        ∙ ap (λ (z : Found). pour step z s o) (below_node step bytes ring segments y left (quad_bounds box q) from (from + size) deep)
         ∙ ap (λ (b : Rect). pour step (node bytes ring segments y (left - 1) b from (from + size)) s o) (sym i)
         ∙ n

@@ -1,4 +1,6 @@
 // Searches a packed tree, into lent room or for the ring test: recursion into quadrants while the remaining depth falls from 64.
+#![tactic(auto)]
+
 ghost use Rattle.std.specs.Prelude.{◌≡◌, ◌+◌, ◌*◌, ◌<◌, ◌≤◌, length, eqb};
 ghost use Rattle.rings.specs.Ring.{wide, side_at, holds_height};
 ghost use Rattle.tree.specs.Search.{meets_height, own_from, own, child, node, searched};

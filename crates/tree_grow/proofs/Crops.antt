@@ -16,8 +16,8 @@ use Rattle.tree_grow.specs.declared.Growth.{Growth}
 use Rattle.tree_grow.specs.declared.Growth.TheVariants.{Stands, Cramped}
 use Rattle.tree_grow.specs.Inner.Records.{records}
 use Rattle.tree_grow.specs.Inner.Growing.{Crop, crop_of, no_crop, beside, sprout, share_of, shares_n, shares_from, crop_n, crop_from, Stood, Grew, Rooted}
-use Rattle.tree_grow.proofs.Records.{nodes-some}
-use Rattle.tree_grow.proofs.Parts.{part_end, put_end, put-behind}
+use Rattle.tree_grow.proofs.Records.{nodes_some}
+use Rattle.tree_grow.proofs.Parts.{part_end, put_end, put_behind}
 
 -- what a growing function did, once its answer is known
 pub stood : {c : Crop} {rest : List ℕ} {r : Growth} {a b : List ℕ} {n size : ℕ} → Grew c rest r a b → r ≡ Stands n size → Stood c rest n size a b
@@ -36,8 +36,8 @@ full h = record { out = h }
 pub same_crop : {c d : Crop} {rest : List ℕ} {r : Growth} {a b : List ℕ} → c ≡ d → Grew d rest r a b → Grew c rest r a b
 same_crop {c} {d} {rest} {r} {a} {b} e g = subst (λ (z : Crop). Grew z rest r a b) (sym e) g
 
-pub same-tree : {t u : Tree} {rest : List ℕ} {r : Growth} {a b : List ℕ} → t ≡ u → Grew (crop_of u) rest r a b → Grew (crop_of t) rest r a b
-same-tree e g = same_crop (ap crop_of e) g
+pub same_tree : {t u : Tree} {rest : List ℕ} {r : Growth} {a b : List ℕ} → t ≡ u → Grew (crop_of u) rest r a b → Grew (crop_of t) rest r a b
+same_tree e g = same_crop (ap crop_of e) g
 
 -- ---- one tree
 pub none_grew : (ring : ℕ → Float) (left : ℕ) (box : Rect) (xs rest : List ℕ) → length xs ≡ 0 → Grew (crop_of (sprout ring left box xs)) rest (Stands 0 0) xs rest
@@ -45,15 +45,15 @@ unfolding crop_of sprout nodes packed in_order records
 none_grew ring left box [] rest e = grew (record { counted = refl; sized = refl; ordered = refl; recorded = refl; fits = omega arith })
 none_grew ring left box (x ∷ xs) rest e = absurd (omega arith)
 
-pub sprout-some : (ring : ℕ → Float) (left : ℕ) (box : Rect) (xs : List ℕ) → (length xs ≡ 0 → ⊥) → sprout ring left box xs ≡ grown ring left box xs
+pub sprout_some : (ring : ℕ → Float) (left : ℕ) (box : Rect) (xs : List ℕ) → (length xs ≡ 0 → ⊥) → sprout ring left box xs ≡ grown ring left box xs
 unfolding sprout
-sprout-some ring left box [] h = absurd (h refl)
-sprout-some ring left box (x ∷ xs) h = refl
+sprout_some ring left box [] h = absurd (h refl)
+sprout_some ring left box (x ∷ xs) h = refl
 
 -- the whole tree
 module _ (ring : ℕ → Float) (left : ℕ) (box : Rect) (xs : List ℕ) (some : 0 < length xs) where
   crop_whole : crop_of (sprout ring left box xs) ≡ crop_of (grown ring left box xs)
-  crop_whole = ap crop_of (sprout-some ring left box xs (λ e. omega arith))
+  crop_whole = ap crop_of (sprout_some ring left box xs (λ e. omega arith))
 
   pub tree_stood : {rest : List ℕ} {n size : ℕ} {a b : List ℕ} → Stood (crop_of (sprout ring left box xs)) rest n size a b → Rooted (grown ring left box xs) rest n a b
   unfolding crop_of
@@ -69,7 +69,7 @@ pub full_at_once : (ring : ℕ → Float) (left : ℕ) (box : Rect) (xs rest a b
     → Grew (crop_of (sprout ring left box xs)) rest Cramped a b
 unfolding crop_of
 full_at_once ring left box xs rest a b h l =
-    same-tree (sprout-some ring left box xs h) (full (omega (arith, nodes-some ring left box xs)))
+    same_tree (sprout_some ring left box xs h) (full (omega (arith, nodes_some ring left box xs)))
 
 pub leaf_grew : (xs rest rest' : List ℕ) (size : ℕ) → 6 ≤ length rest → size ≡ length (own_bytes xs)
     → rest' ≡ length xs ∷ 0 ∷ 0 ∷ 0 ∷ 0 ∷ (size + 1) ∷ drop 6 rest → Grew (crop_of (leaf xs)) rest (Stands 1 (size + 1)) xs rest'
@@ -112,7 +112,7 @@ module _ (c d : Crop) (rest p rest₁ : List ℕ) (k size : ℕ) (long : length 
         record {
           counted = omega (arith, s.counted, s₂.counted);
           sized = omega (arith, s.sized, s₂.sized, i, ap (λ (z : ℕ). length (encode z)) s.sized);
-          ordered = put-behind l p n h e y ∙ ap₂ (λ (a b : List ℕ). a ++ b) s.ordered s₂.ordered;
+          ordered = put_behind l p n h e y ∙ ap₂ (λ (a b : List ℕ). a ++ b) s.ordered s₂.ordered;
           recorded =
               put_end rest₁ rest₂ (k * 6) (omega (arith, used_fits))
               ∙ ap₂ (λ (a b : List ℕ). a ++ b) front (s₂.recorded ∙ ap (λ (z : List ℕ). d.kept ++ drop (6 * d.count) z) behind)

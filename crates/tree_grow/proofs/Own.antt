@@ -10,7 +10,7 @@ use lib.Dec.{lit<}
 use Rattle.room.specs.Room.{write}
 use Rattle.room.proofs.Write.{write_eq}
 use Rattle.varint.specs.Leb128.{encode}
-use Rattle.varint.proofs.Leb128.{encode-last, encode_width}
+use Rattle.varint.proofs.Leb128.{encode_last, encode_width}
 use Rattle.tree.specs.Tree.{differences, own_bytes}
 use Rattle.tree_part.specs.declared.Shares.{Shares}
 use Rattle.tree_grow.specs.Inner.Growing.{share_of}
@@ -20,12 +20,12 @@ encode_ten x h = encode_width 64 x (lit< tt) h
 
 -- a difference of 0 takes one byte
 pub no_gap : (x last : ℕ) → x ≤ last → 1 ≡ length (encode (x - last))
-no_gap x last h = let e : x - last ≡ 0 = omega arith in rw (e, encode-last 0 (lit< tt))
+no_gap x last h = let e : x - last ≡ 0 = omega arith in rw (e, encode_last 0 (lit< tt))
 
 module _ (xs : List ℕ) where
-  pub own-start : length (encode (length xs)) + length (differences 0 (drop 0 xs)) ≡ length (own_bytes xs)
+  pub own_start : length (encode (length xs)) + length (differences 0 (drop 0 xs)) ≡ length (own_bytes xs)
   unfolding own_bytes
-  own-start = simp length-append
+  own_start = simp length-append
 
   pub own_more : (last i : ℕ) → i < length xs
       → length (differences last (drop i xs)) ≡ length (encode (get_or xs i 0 - last)) + length (differences (get_or xs i 0) (drop (i + 1) xs))

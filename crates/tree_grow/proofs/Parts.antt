@@ -20,10 +20,10 @@ module _ (l p : List ℕ) (n : ℕ) (h : n ≤ length l) (e : length p ≡ lengt
   pub front_length : length p ≡ n
   front_length = e ∙ length-take-le n l h
 
-  pub part-behind : take (length (p ++ drop n l) - n) (drop n (p ++ drop n l)) ≡ drop n l
-  part-behind = part_end (p ++ drop n l) n ∙ drop_at p (drop n l) n front_length
+  pub part_behind : take (length (p ++ drop n l) - n) (drop n (p ++ drop n l)) ≡ drop n l
+  part_behind = part_end (p ++ drop n l) n ∙ drop_at p (drop n l) n front_length
 
-  pub put-behind : (y : List ℕ) → put_mid n (length (p ++ drop n l) - n) (p ++ drop n l) y ≡ p ++ y
-  put-behind y =
+  pub put_behind : (y : List ℕ) → put_mid n (length (p ++ drop n l) - n) (p ++ drop n l) y ≡ p ++ y
+  put_behind y =
       put_end (p ++ drop n l) y n (omega (arith, front_length, length-append p (drop n l)))
       ∙ ap (λ (z : List ℕ). z ++ y) (take_at p (drop n l) n front_length)

@@ -15,19 +15,19 @@ use Rattle.tree_part.specs.declared.Shares.{Shares}
 use Rattle.tree_part.specs.Part.{Readable}
 use Rattle.tree_grow.specs.declared.Growth.TheVariants.{Stands, Cramped}
 use Rattle.tree_grow.specs.Inner.Growing.{Crop, crop_of, beside, sprout, share_of, shares_from, crop_from, Stood, Grew}
-use Rattle.tree_grow.proofs.Records.{records-length}
-use Rattle.tree_grow.proofs.Parts.{part-behind}
+use Rattle.tree_grow.proofs.Records.{records_length}
+use Rattle.tree_grow.proofs.Parts.{part_behind}
 use Rattle.tree_grow.proofs.Crops.{grew, full, same_crop, left_over, beside_full, beside_stood, shares_more, shares_done, crop_done, crop_more}
-use Rattle.tree_grow.proofs.Sizes.{all_take, all_drop, small_all, from-size}
+use Rattle.tree_grow.proofs.Sizes.{all_take, all_drop, small_all, from_size}
 
 nothing : (xs : List ℕ) → length xs ≡ 0 → xs ≡ []
 nothing [] e = refl
 nothing (x ∷ xs) e = absurd (omega arith)
 
 -- none is left
-pub from-none : (ring : ℕ → Float) (left : ℕ) (box : Rect) (s : Shares) (q : ℕ) (run rest : List ℕ) → q ≡ 4 → shares_from s q ≡ length run
+pub from_none : (ring : ℕ → Float) (left : ℕ) (box : Rect) (s : Shares) (q : ℕ) (run rest : List ℕ) → q ≡ 4 → shares_from s q ≡ length run
     → Grew (crop_from ring left box s q run) rest (Stands 0 0) run rest
-from-none ring left box s q run rest e l =
+from_none ring left box s q run rest e l =
     same_crop (crop_done ring left box s q run e)
     (grew (record { counted = refl; sized = refl; ordered = nothing run (omega (arith, l, shares_done ring left box s q e)); recorded = refl; fits = omega arith }))
 
@@ -84,11 +84,11 @@ module _ {total : ℕ} {ring : ℕ → Float} {left : ℕ} {box : Rect} {s : Sha
   rest_behind = take (length rest₁ - k * 6) (drop (k * 6) rest₁)
 
   behind_is : behind ≡ drop n run
-  behind_is = part-behind run p n (share_within h.next) h.long
+  behind_is = part_behind run p n (share_within h.next) h.long
 
-  first-long : length first.kept ≡ 6 * first.count
+  first_long : length first.kept ≡ 6 * first.count
   unfolding crop_of
-  first-long = records-length (sprout ring left h.inner (take n run))
+  first_long = records_length (sprout ring left h.inner (take n run))
 
   pub used_within : k * 6 ≤ length rest
   used_within = omega (arith, h.stands.counted, h.stands.fits)
@@ -113,23 +113,23 @@ module _ {total : ℕ} {ring : ℕ → Float} {left : ℕ} {box : Rect} {s : Sha
   pub behind_full : {a a' : List ℕ} → length rest_behind < 6 * (crop_from ring left box s (q + 1) behind).count → Grew (crop_from ring left box s q run) rest Cramped a a'
   behind_full l =
       same_crop (crop_here h.next h.inner h.inside)
-      (full (beside_full first (crop_from ring left box s (q + 1) (drop n run)) rest p rest₁ k size first-long h.stands (rw behind_is at l)))
+      (full (beside_full first (crop_from ring left box s (q + 1) (drop n run)) rest p rest₁ k size first_long h.stands (rw behind_is at l)))
 
   module _ {y rest₂ : List ℕ} {k₂ size₂ : ℕ} (g : Stood (crop_from ring left box s (q + 1) behind) rest_behind k₂ size₂ y rest₂) where
     pub nodes_fit : 6 * (k + k₂) ≤ length rest
     nodes_fit =
-        omega (arith, h.stands.counted, h.stands.fits, g.counted, g.fits, left_over first (crop_from ring left box s (q + 1) behind) rest p rest₁ k size first-long h.stands)
+        omega (arith, h.stands.counted, h.stands.fits, g.counted, g.fits, left_over first (crop_from ring left box s (q + 1) behind) rest p rest₁ k size first_long h.stands)
 
     module _ (len : ℕ) (i : len ≡ length (encode size)) where
       pub from_grew : Grew (crop_from ring left box s q run) rest (Stands (k + k₂) (len + size + size₂))
           (put_mid n (length (p ++ drop n run) - n) (p ++ drop n run) y) (put_mid (k * 6) (length rest₁ - k * 6) rest₁ rest₂)
       from_grew =
           same_crop (crop_here h.next h.inner h.inside)
-          (grew (beside_stood first (crop_from ring left box s (q + 1) (drop n run)) rest p rest₁ k size first-long h.stands run y rest₂ n k₂ size₂ len
+          (grew (beside_stood first (crop_from ring left box s (q + 1) (drop n run)) rest p rest₁ k size first_long h.stands run y rest₂ n k₂ size₂ len
           (share_within h.next) h.long i h.kept
           (subst (λ (z : List ℕ). Stood (crop_from ring left box s (q + 1) z) rest_behind k₂ size₂ y rest₂) behind_is g)))
 
       pub sizes_small : len + size + size₂ < 4294967296
       sizes_small =
           let x = h.next in
-          omega (arith, from_grew.out.sized, from-size ring left box s (omega (arith, x.deep)) q run x.few (small_all total run x.readable))
+          omega (arith, from_grew.out.sized, from_size ring left box s (omega (arith, x.deep)) q run x.few (small_all total run x.readable))

@@ -1,5 +1,7 @@
 // Grows the tree of a ring in two rooms: the segments are shared out where they stand, and each node leaves six numbers in
 // the other, a node before its quadrants. The `pub` functions are for the crates above, which have checked the ring.
+#![tactic(auto)]
+
 ghost use Rattle.std.specs.Prelude.{◌≡◌, ◌∷◌, ◌+◌, ◌-◌, ◌*◌, ◌<◌, ◌≤◌, length, drop};
 ghost use Rattle.rings.specs.Ring.{wide};
 ghost use Rattle.varint.specs.Leb128.{encode};

@@ -7,14 +7,14 @@ use native.Mathlib.Numerals.{add-one}
 use lib.ListN.{length, get_or, drop, set, length-append, drop_of_length-le}
 use lib.Seq.{drop-cons}
 use Rattle.room.specs.Room.{write}
-use Rattle.room.proofs.Write.{write-length, write-append}
+use Rattle.room.proofs.Write.{write_length, write_append}
 use Rattle.varint.specs.Leb128.{encode}
 use Rattle.tree.specs.Tree.{differences, own_bytes}
 use Rattle.tree_pack.specs.Inner.Packing.{head_of}
 
 -- one run behind another
 pub write_two : {A : Type 0} (l l' : List A) (i j : ℕ) (us vs : List A) → l' ≡ write l i us → j ≡ i + length us → write l' j vs ≡ write l i (us ++ vs)
-write_two l l' i j us vs e f = rw (e, f) (write-append l i us vs)
+write_two l l' i j us vs e f = rw (e, f) (write_append l i us vs)
 
 diff_more : (own : List ℕ) (last i : ℕ) → i < length own
     → differences last (drop i own) ≡ encode (get_or own i 0 - last) ++ differences (get_or own i 0) (drop (i + 1) own)
@@ -51,7 +51,7 @@ module _ (own out₀ : List ℕ) (p₀ : ℕ) where
               ∙ ap (write out p) (sym (diff_more own last i h))
               ∙ s.same;
           place = omega (arith, s.place, ap length (diff_more own last i h), length-append (encode (get_or own i 0 - last)) (differences (get_or own i 0) (drop (i + 1) own)));
-          long = ap length e ∙ write-length out p (encode (get_or own i 0 - last)) ∙ s.long;
+          long = ap length e ∙ write_length out p (encode (get_or own i 0 - last)) ∙ s.long;
         }
 
     pub putting_done : length own ≤ i → (p ≡ p₀ + length (differences 0 own)) × (out ≡ write out₀ p₀ (differences 0 own))
@@ -60,15 +60,15 @@ module _ (own out₀ : List ℕ) (p₀ : ℕ) where
 
 -- the count, then the differences
 module _ (own : List ℕ) where
-  pub own-length : length (own_bytes own) ≡ length (encode (length own)) + length (differences 0 own)
+  pub own_length : length (own_bytes own) ≡ length (encode (length own)) + length (differences 0 own)
   unfolding own_bytes
-  own-length = length-append (encode (length own)) (differences 0 own)
+  own_length = length-append (encode (length own)) (differences 0 own)
 
-  pub own-written : (o o₁ o₂ : List ℕ) (at p₀ p : ℕ) → o₁ ≡ write o at (encode (length own)) → p₀ ≡ at + length (encode (length own))
+  pub own_written : (o o₁ o₂ : List ℕ) (at p₀ p : ℕ) → o₁ ≡ write o at (encode (length own)) → p₀ ≡ at + length (encode (length own))
       → o₂ ≡ write o₁ p₀ (differences 0 own) → p ≡ p₀ + length (differences 0 own)
       → (p ≡ at + length (own_bytes own)) × (o₂ ≡ write o at (own_bytes own))
   unfolding own_bytes
-  own-written o o₁ o₂ at p₀ p a b c d = (omega (arith, length-append (encode (length own)) (differences 0 own)), c ∙ write_two o o₁ at p₀ _ _ a b)
+  own_written o o₁ o₂ at p₀ p a b c d = (omega (arith, length-append (encode (length own)) (differences 0 own)), c ∙ write_two o o₁ at p₀ _ _ a b)
 
   -- and the split byte
   pub head_length : (s : ℕ) → length (head_of own s) ≡ length (own_bytes own) + 1

@@ -1,6 +1,8 @@
 // Packs a grown tree: recursion into quadrants while the remaining depth falls from 64. A child's size stands in its record,
 // so that it is known before the child is written, and nothing is written twice. All sizes were worked out while the tree
 // grew and the builder has seen that the bytes fit, so no number's length is asked for here.
+#![tactic(auto)]
+
 ghost use Rattle.std.specs.Prelude.{◌≡◌, ◌+◌, ◌-◌, ◌≤◌, ◌<◌, length};
 ghost use Rattle.room.specs.Room.{write};
 ghost use Rattle.tree.specs.Tree.{max_depth, own_bytes};

@@ -37,16 +37,16 @@ class_small (Quadrant (suc (suc (suc q)))) = omega arith
 abbrev Told : ℕ → (Chosen → Bool) → Chosen → Type 0
 Told k t way = eqb (class_of_of way) k ≡ t way
 
-each-told : (w e s n : Bool)
+each_told : (w e s n : Bool)
     → Told 0 is_stayer (quadrant w e s n) × Told 1 (goes_to 0) (quadrant w e s n) × Told 2 (goes_to 1) (quadrant w e s n)
     × Told 3 (goes_to 2) (quadrant w e s n) × Told 4 (goes_to 3) (quadrant w e s n)
-each-told true e true n = (refl, refl, refl, refl, refl)
-each-told true e false true = (refl, refl, refl, refl, refl)
-each-told true e false false = (refl, refl, refl, refl, refl)
-each-told false true true n = (refl, refl, refl, refl, refl)
-each-told false true false true = (refl, refl, refl, refl, refl)
-each-told false true false false = (refl, refl, refl, refl, refl)
-each-told false false s n = (refl, refl, refl, refl, refl)
+each_told true e true n = (refl, refl, refl, refl, refl)
+each_told true e false true = (refl, refl, refl, refl, refl)
+each_told true e false false = (refl, refl, refl, refl, refl)
+each_told false true true n = (refl, refl, refl, refl, refl)
+each_told false true false true = (refl, refl, refl, refl, refl)
+each_told false true false false = (refl, refl, refl, refl, refl)
+each_told false false s n = (refl, refl, refl, refl, refl)
 
 module _ (ring : ℕ → Float) (box : Rect) where
   told : (i : ℕ)
@@ -54,7 +54,7 @@ module _ (ring : ℕ → Float) (box : Rect) where
       × Told 3 (goes_to 2) (choice ring box i) × Told 4 (goes_to 3) (choice ring box i)
   told i =
       let r = box_of (side_at ring i) in
-      each-told (lt r.max.x (mid_x box)) (not (lt r.min.x (mid_x box))) (lt r.max.y (mid_y box)) (not (lt r.min.y (mid_y box)))
+      each_told (lt r.max.x (mid_x box)) (not (lt r.min.x (mid_x box))) (lt r.max.y (mid_y box)) (not (lt r.min.y (mid_y box)))
 
   -- the run that is marked, in its lower halves
   abbrev marks : List ℕ → List ℕ
@@ -77,9 +77,9 @@ module _ (ring : ℕ → Float) (box : Rect) where
       (ap₂ (λ (b : Bool) (ys : List ℕ). cons_if b x ys) (way x) (of_marks long k t way xs a.1))
 
   -- nothing is lost, and nothing comes twice
-  pub parts-length : (xs : List ℕ) → length (parts_of ring box xs) ≡ length xs
+  pub parts_length : (xs : List ℕ) → length (parts_of ring box xs) ≡ length xs
   unfolding parts_of
-  parts-length xs = simp length-append (omega (arith, length_shares ring box xs))
+  parts_length xs = simp length-append (omega (arith, length_shares ring box xs))
 
   module _ (long : ℕ) (xs : List ℕ) (a : All (Readable long) xs) where
     own : of_class 0 (marks xs) ≡ stayers ring box xs
@@ -97,13 +97,13 @@ module _ (ring : ℕ → Float) (box : Rect) where
     se : of_class 4 (marks xs) ≡ goers ring box 3 xs
     se = of_marks long 4 (goes_to 3) (λ i. (told i).4) xs a
 
-    pub classes-parts : classes (marks xs) ≡ parts_of ring box xs
+    pub classes_parts : classes (marks xs) ≡ parts_of ring box xs
     unfolding classes parts_of
-    classes-parts = rw (own, nw, ne, sw, se)
+    classes_parts = rw (own, nw, ne, sw, se)
 
     pub counts_shares : class_counts (marks xs) ≡ shares_of ring box xs
     unfolding class_counts shares_of
     counts_shares = rw (own, nw, ne, sw, se)
 
     pub classes_fill : length (classes (marks xs)) ≡ length (map (marked ring box) xs)
-    classes_fill = ap length classes-parts ∙ parts-length xs ∙ sym (length-map xs (marked ring box))
+    classes_fill = ap length classes_parts ∙ parts_length xs ∙ sym (length-map xs (marked ring box))

@@ -1,4 +1,6 @@
 // The segments that arrive at a node of the tree that splits, shared out in the room where they stand.
+#![tactic(auto)]
+
 ghost use Rattle.std.specs.Prelude.{◌≡◌, map, ◌+◌, ◌*◌, ◌<◌, ◌≤◌, length};
 ghost use Rattle.rings.specs.Ring.{wide};
 ghost use Rattle.tree.specs.All.{All};

@@ -12,15 +12,15 @@ use Rattle.rings.specs.Checks.{closed}
 use Rattle.rings.proofs.Whole.{split, diff_add, diff_sub, diff_mul, diff_same}
 use Rattle.turn.specs.Turn.{sum_to, part, doubled_area}
 use Rattle.turn.specs.Inner.Halves.{product}
-use Rattle.turn.proofs.Sums.{sum_same, sum-sub, sum-add, sum_steps, cancel}
+use Rattle.turn.proofs.Sums.{sum_same, sum_sub, sum_add, sum_steps, cancel}
 use Rattle.turn.proofs.Rows.{ends}
 
 -- ---- one segment
 
 -- raising all coordinates by o changes a segment's part by the step of o (x - y)
-raised-part : (o x y x' y' : ℤ)
+raised_part : (o x y x' y' : ℤ)
     → (x +ℤ o) *ℤ (y' +ℤ o) -ℤ (x' +ℤ o) *ℤ (y +ℤ o) ≡ (x *ℤ y' -ℤ x' *ℤ y) +ℤ (o *ℤ (x -ℤ y) -ℤ o *ℤ (x' -ℤ y'))
-raised-part o x y x' y' =
+raised_part o x y x' y' =
     rw (split o, split x, split y, split x', split y')
     (simp (diff_add, diff_sub, diff_mul) (diff_same _ _ _ _ (omega arith)))
 
@@ -34,13 +34,13 @@ module _ (ring : List ℤ) where
   lift : ℕ → ℤ
   lift i = pos (2 ^ 31) *ℤ (at (i * 2) -ℤ at (i * 2 + 1))
 
-  segment-part : (i : ℕ) → product ring 0 3 i -ℤ product ring 2 1 i ≡ part (segment_at ring i) +ℤ (lift i -ℤ lift (suc i))
+  segment_part : (i : ℕ) → product ring 0 3 i -ℤ product ring 2 1 i ≡ part (segment_at ring i) +ℤ (lift i -ℤ lift (suc i))
   unfolding at lift
-  segment-part i =
+  segment_part i =
       let first : i * 2 + 0 ≡ i * 2 = omega arith in
       let x : suc i * 2 ≡ i * 2 + 2 = omega arith in
       let y : suc i * 2 + 1 ≡ i * 2 + 3 = omega arith in
-      rw (first, y, x) (raised-part (pos (2 ^ 31)) (at (i * 2)) (at (i * 2 + 1)) (at (i * 2 + 2)) (at (i * 2 + 3)))
+      rw (first, y, x) (raised_part (pos (2 ^ 31)) (at (i * 2)) (at (i * 2 + 1)) (at (i * 2 + 2)) (at (i * 2 + 3)))
 
   -- for a closed ring nothing is added
   pub area_is : (points : ℕ) → closed ring points ≡ true → doubled_area ring points ≡ sum_to (product ring 0 3) (segments points) -ℤ sum_to (product ring 2 1) (segments points)
@@ -49,8 +49,8 @@ module _ (ring : List ℤ) where
       let n = segments points in
       let level : lift 0 ≡ lift n = ap (λ (p : I32Point). pos (2 ^ 31) *ℤ (p.x -ℤ p.y)) (ends ring points shut) in
       sym (
-      sum-sub (product ring 0 3) (product ring 2 1) n
-      ∙ sum_same (λ i. product ring 0 3 i -ℤ product ring 2 1 i) (λ i. part (segment_at ring i) +ℤ (lift i -ℤ lift (suc i))) n segment-part
-      ∙ sum-add (λ i. part (segment_at ring i)) (λ i. lift i -ℤ lift (suc i)) n
+      sum_sub (product ring 0 3) (product ring 2 1) n
+      ∙ sum_same (λ i. product ring 0 3 i -ℤ product ring 2 1 i) (λ i. part (segment_at ring i) +ℤ (lift i -ℤ lift (suc i))) n segment_part
+      ∙ sum_add (λ i. part (segment_at ring i)) (λ i. lift i -ℤ lift (suc i)) n
       ∙ ap (λ (z : ℤ). doubled_area ring points +ℤ z) (sum_steps lift n ∙ ap (λ (z : ℤ). z -ℤ lift n) level ∙ cancel (lift n))
       ∙ +ℤ_idr (doubled_area ring points))

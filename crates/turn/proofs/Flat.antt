@@ -1,5 +1,5 @@
 -- An accepted ring whose points are all on one line has no turn (`line_turned`); so has one of a single point repeated
--- (`point-turned`). Assumes nothing.
+-- (`point_turned`). Assumes nothing.
 use Prim.Native.Nat.{ℕ, zero, suc, ◌+◌, ◌*◌, ◌-◌, ◌<◌}
 use mathlib.Core.Path.{◌≡◌, refl, sym, ap, ap₂, ◌∙◌}
 use mathlib.Core.Bool.{true}
@@ -18,7 +18,7 @@ use Rattle.turn.specs.Turn.{doubled_area, turned}
 use Rattle.turn.specs.Line.{Line, OnLine}
 use Rattle.turn.proofs.Sums.{sum_below, sum_steps, sum_times, cancel}
 use Rattle.turn.proofs.Rows.{ends, step, area_of_points}
-use Rattle.turn.proofs.Sign.{flat-none}
+use Rattle.turn.proofs.Sign.{flat_none}
 
 -- ---- whole numbers
 
@@ -109,17 +109,17 @@ module _ (l : Line) (ring : List ℤ) (points : ℕ) (on : OnLine l ring points)
 pub line_turned : (l : Line) (ring : List ℤ) (points : ℕ) → OnLine l ring points → ring_checked ring points ≡ Sound → turned ring points ≡ Turns None
 unfolding turned
 line_turned l ring points on sound =
-    rw (sound, line_area l ring points on (sound_ring ring points sound).shut) (ap Turns flat-none)
+    rw (sound, line_area l ring points on (sound_ring ring points sound).shut) (ap Turns flat_none)
 
 -- ---- one point, repeated
 
 upright : ℤ → Line
 upright x = record { a = pos 1; b = pos 0; c = x; runs = λ e f. let z : ◌≡◌ {A = ℕ} 1 0 = cc in omega arith }
 
-pub point-turned : (p : I32Point) (ring : List ℤ) (points : ℕ) → ((i : ℕ) → i < points → point_at ring i ≡ p)
+pub point_turned : (p : I32Point) (ring : List ℤ) (points : ℕ) → ((i : ℕ) → i < points → point_at ring i ≡ p)
     → ring_checked ring points ≡ Sound → turned ring points ≡ Turns None
 unfolding upright one
-point-turned p ring points same sound = line_turned (upright p.x) ring points on sound
+point_turned p ring points same sound = line_turned (upright p.x) ring points on sound
   where
     on : OnLine (upright p.x) ring points
     on i h =

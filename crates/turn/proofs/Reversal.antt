@@ -2,8 +2,8 @@
 --
 -- For every list of numbers and every point count, accepted or not: the doubled area of the points in reverse order is the
 -- doubled area with its sign changed (`reversed_area`). So anticlockwise becomes clockwise, clockwise anticlockwise, and none
--- stays none (`reversed-sign`). An accepted ring stays accepted (`reversed_sound`); any ring of two numbers a point is refused
--- as before or not at all (`reversed_checked`), so that the call's whole answer is known (`reversed-turned`). Twice reversed is
+-- stays none (`reversed_sign`). An accepted ring stays accepted (`reversed_sound`); any ring of two numbers a point is refused
+-- as before or not at all (`reversed_checked`), so that the call's whole answer is known (`reversed_turned`). Twice reversed is
 -- the ring again (`reversed_twice`).
 use Prim.Native.Nat.{ℕ, zero, suc, ◌+◌, ◌*◌, ◌-◌, ◌<◌}
 use mathlib.Core.Path.{◌≡◌, refl, sym, ap, ap₂, ◌∙◌}
@@ -25,19 +25,19 @@ use Rattle.turn.specs.declared.Turning.{Turning}
 use Rattle.turn.specs.Turn.{sum_to, turn_of, doubled_area, when_sound, turned}
 use Rattle.turn.specs.Order.{reversed, opposite, oppositely}
 use Rattle.turn.proofs.Sums.{sum_first, sum_same}
-use Rattle.turn.proofs.Rows.{step, ring-length, ring-points, same_points, area_of_points, area_of_row}
+use Rattle.turn.proofs.Rows.{step, ring_length, ring_points, same_points, area_of_points, area_of_row}
 use Rattle.turn.proofs.Sign.{opposite_turn}
 
 -- ---- what reversing does to the points
 
-pub reversed-length : (ring : List ℤ) (points : ℕ) → length (reversed ring points) ≡ points * 2
+pub reversed_length : (ring : List ℤ) (points : ℕ) → length (reversed ring points) ≡ points * 2
 unfolding reversed
-reversed-length ring points = ring-length _ points
+reversed_length ring points = ring_length _ points
 
 -- point i of the reversed ring is the point that is i from the ring's last, x and y kept together
-pub reversed-point : (ring : List ℤ) (points i : ℕ) → i < points → point_at (reversed ring points) i ≡ point_at ring (points - suc i)
+pub reversed_point : (ring : List ℤ) (points i : ℕ) → i < points → point_at (reversed ring points) i ≡ point_at ring (points - suc i)
 unfolding reversed
-reversed-point ring points i h = ring-points (λ i. point_at ring (points - suc i)) points i h
+reversed_point ring points i h = ring_points (λ i. point_at ring (points - suc i)) points i h
 
 -- ---- what it does to the area
 
@@ -72,8 +72,8 @@ reversed_area ring points =
 
 -- ---- so the two turns are swapped, and none is kept
 
-pub reversed-sign : (ring : List ℤ) (points : ℕ) → turn_of (doubled_area (reversed ring points) points) ≡ opposite (turn_of (doubled_area ring points))
-reversed-sign ring points = ap turn_of (reversed_area ring points) ∙ opposite_turn (doubled_area ring points)
+pub reversed_sign : (ring : List ℤ) (points : ℕ) → turn_of (doubled_area (reversed ring points) points) ≡ opposite (turn_of (doubled_area ring points))
+reversed_sign ring points = ap turn_of (reversed_area ring points) ∙ opposite_turn (doubled_area ring points)
 
 -- ---- the checks, and all of the answer
 
@@ -83,11 +83,11 @@ eq_z_back (pos a) (negsuc b) = refl
 eq_z_back (negsuc a) (pos b) = refl
 eq_z_back (negsuc a) (negsuc b) = eqb_same b a a b sym sym
 
-reversed-closed : (ring : List ℤ) (points : ℕ) → 0 < points → closed (reversed ring points) points ≡ closed ring points
-reversed-closed ring points h =
-    let first = reversed-point ring points 0 h in
+reversed_closed : (ring : List ℤ) (points : ℕ) → 0 < points → closed (reversed ring points) points ≡ closed ring points
+reversed_closed ring points h =
+    let first = reversed_point ring points 0 h in
     let to-first : points - suc (points - 1) ≡ 0 = omega arith in
-    let last = reversed-point ring points (points - 1) (omega arith) ∙ ap (point_at ring) to-first in
+    let last = reversed_point ring points (points - 1) (omega arith) ∙ ap (point_at ring) to-first in
     ap₂ same_point first last
     ∙ ap₂ ◌&&◌ (eq_z_back (point_at ring 0).x (point_at ring (points - 1)).x) (eq_z_back (point_at ring 0).y (point_at ring (points - 1)).y)
 
@@ -99,9 +99,9 @@ reversed_checked ring points sizes =
       | yes few ↦ rw (lt-ltb points 2 few)
       | no more ↦
           rw (
-            eq-eqb (points * 2) (length (reversed ring points)) (sym (reversed-length ring points)),
+            eq-eqb (points * 2) (length (reversed ring points)) (sym (reversed_length ring points)),
             eq-eqb (points * 2) (length ring) sizes,
-            reversed-closed ring points (omega arith),
+            reversed_closed ring points (omega arith),
           )
     ]
 
@@ -112,17 +112,17 @@ when_opposite : (checked : Checked) (turning : Turning) → when_sound checked (
 when_opposite Sound turning = refl
 when_opposite (Faulty why) turning = refl
 
-pub reversed-turned : (ring : List ℤ) (points : ℕ) → points * 2 ≡ length ring → turned (reversed ring points) points ≡ oppositely (turned ring points)
+pub reversed_turned : (ring : List ℤ) (points : ℕ) → points * 2 ≡ length ring → turned (reversed ring points) points ≡ oppositely (turned ring points)
 unfolding turned
-reversed-turned ring points sizes =
-    ap₂ when_sound (reversed_checked ring points sizes) (reversed-sign ring points) ∙ when_opposite (ring_checked ring points) (turn_of (doubled_area ring points))
+reversed_turned ring points sizes =
+    ap₂ when_sound (reversed_checked ring points sizes) (reversed_sign ring points) ∙ when_opposite (ring_checked ring points) (turn_of (doubled_area ring points))
 
 -- ---- reversing loses nothing
 
 pub reversed_twice : (ring : List ℤ) (points : ℕ) → points * 2 ≡ length ring → reversed (reversed ring points) points ≡ ring
 reversed_twice ring points sizes =
-    same_points (reversed (reversed ring points) points) ring points (reversed-length (reversed ring points) points) (sym sizes)
+    same_points (reversed (reversed ring points) points) ring points (reversed_length (reversed ring points) points) (sym sizes)
     (λ i h.
-    reversed-point (reversed ring points) points i h
-    ∙ reversed-point ring points (points - suc i) (omega arith)
+    reversed_point (reversed ring points) points i h
+    ∙ reversed_point ring points (points - suc i) (omega arith)
     ∙ ap (point_at ring) (omega arith))

@@ -25,19 +25,19 @@ ends ring points shut =
     let e = both (eq_z first.x last.x) (eq_z first.y last.y) shut in
     ap₂ (λ (x y : ℤ). record { x = x; y = y }) (eq_z_true first.x last.x e.0) (eq_z_true first.y last.y e.1)
 
-pub ring-length : (point : ℕ → I32Point) (n : ℕ) → length (ring_of point n) ≡ n * 2
+pub ring_length : (point : ℕ → I32Point) (n : ℕ) → length (ring_of point n) ≡ n * 2
 unfolding ring_of
-ring-length point zero = refl
-ring-length point (suc n) = omega (arith, ring-length (λ i. point (suc i)) n)
+ring_length point zero = refl
+ring_length point (suc n) = omega (arith, ring_length (λ i. point (suc i)) n)
 
-pub ring-points : (point : ℕ → I32Point) (n i : ℕ) → i < n → point_at (ring_of point n) i ≡ point i
+pub ring_points : (point : ℕ → I32Point) (n i : ℕ) → i < n → point_at (ring_of point n) i ≡ point i
 unfolding ring_of
-ring-points point zero i h = absurd (omega arith)
-ring-points point (suc n) zero h = refl
-ring-points point (suc n) (suc i) h =
+ring_points point zero i h = absurd (omega arith)
+ring_points point (suc n) zero h = refl
+ring_points point (suc n) (suc i) h =
     let x : suc i * 2 ≡ suc (suc (i * 2)) = omega arith in
     let y : suc i * 2 + 1 ≡ suc (suc (i * 2 + 1)) = omega arith in
-    rw (y, x) (ring-points (λ i. point (suc i)) n i (omega arith))
+    rw (y, x) (ring_points (λ i. point (suc i)) n i (omega arith))
 
 -- two rings of the same points are the same
 pub same_points : (a b : List ℤ) (points : ℕ) → length a ≡ points * 2 → length b ≡ points * 2
@@ -69,4 +69,4 @@ area_of_points ring points = sum_same _ _ (segments points) (next_point ring)
 pub area_of_row : (point : ℕ → I32Point) (points : ℕ) → doubled_area (ring_of point points) points ≡ sum_to (λ i. step (point i) (point (suc i))) (segments points)
 area_of_row point points =
     area_of_points (ring_of point points) points
-    ∙ sum_below _ _ (segments points) (λ i h. ap₂ step (ring-points point points i (omega arith)) (ring-points point points (suc i) (omega arith)))
+    ∙ sum_below _ _ (segments points) (λ i h. ap₂ step (ring_points point points i (omega arith)) (ring_points point points (suc i) (omega arith)))

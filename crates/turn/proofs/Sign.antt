@@ -13,15 +13,15 @@ use Rattle.turn.specs.Turn.{turn_of}
 use Rattle.turn.specs.Order.{opposite}
 
 -- an area of 0 has no turn, and no other area has none
-pub flat-none : turn_of (pos 0) ≡ None
+pub flat_none : turn_of (pos 0) ≡ None
 unfolding turn_of
-flat-none = refl
+flat_none = refl
 
-pub none-flat : (area : ℤ) → turn_of area ≡ None → area ≡ pos 0
+pub none_flat : (area : ℤ) → turn_of area ≡ None → area ≡ pos 0
 unfolding turn_of
-none-flat (pos zero) e = refl
-none-flat (pos (suc n)) e = let turns : Anticlockwise ≡ None = rw (lt-ltb 0 (suc n) (omega arith)) at e in cc
-none-flat (negsuc n) e = cc
+none_flat (pos zero) e = refl
+none_flat (pos (suc n)) e = let turns : Anticlockwise ≡ None = rw (lt-ltb 0 (suc n) (omega arith)) at e in cc
+none_flat (negsuc n) e = cc
 
 -- an area negated has the opposite turn
 pub opposite_turn : (area : ℤ) → turn_of (neg_ℤ area) ≡ opposite (turn_of area)

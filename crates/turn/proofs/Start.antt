@@ -18,8 +18,8 @@ use Rattle.rings.proofs.Whole.{eq_z_refl}
 use Rattle.rings.proofs.Checks.{sound_ring}
 use Rattle.turn.specs.Turn.{sum_to, turn_of, doubled_area, when_sound, turned}
 use Rattle.turn.specs.Order.{around, started_at}
-use Rattle.turn.proofs.Sums.{sum_below, sum-parts}
-use Rattle.turn.proofs.Rows.{ends, step, ring-length, ring-points, area_of_points, area_of_row}
+use Rattle.turn.proofs.Sums.{sum_below, sum_parts}
+use Rattle.turn.proofs.Rows.{ends, step, ring_length, ring_points, area_of_points, area_of_row}
 
 -- up to point n nothing is taken off, and behind it n is
 before : (n j : ℕ) → j ≤ n → around n j ≡ j
@@ -61,10 +61,10 @@ module _ (point : ℕ → I32Point) (n k : ℕ) (inside : k ≤ n) (shut : point
       let there : n ≡ n - k + k = omega arith in
       let back : k + (n - k) ≡ n = omega arith in
       ap (sum_to (along (from n k point))) there
-      ∙ sum-parts (along (from n k point)) (n - k) k
+      ∙ sum_parts (along (from n k point)) (n - k) k
       ∙ ap₂ ◌+ℤ◌ (sum_below _ (λ i. along point (k + i)) (n - k) first_part) (sum_below _ (along point) k second_part)
       ∙ +ℤ_comm (sum_to (λ i. along point (k + i)) (n - k)) (sum_to (along point) k)
-      ∙ sym (sum-parts (along point) k (n - k))
+      ∙ sym (sum_parts (along point) k (n - k))
       ∙ ap (sum_to (along point)) back
 
 same_point_lem : (p : I32Point) → same_point p p ≡ true
@@ -81,7 +81,7 @@ module _ (ring : List ℤ) (points k : ℕ) (inside : k ≤ segments points) whe
   -- what starting at point k is: point i of it is the one that is met i steps after point k
   pub started_point : (i : ℕ) → i < points → point_at (started_at k ring points) i ≡ point_at ring (around (segments points) (k + i))
   unfolding started_at
-  started_point i h = ring-points (from (segments points) k (point_at ring)) points i h
+  started_point i h = ring_points (from (segments points) k (point_at ring)) points i h
 
   -- it starts at point k, and ends there
   started_closed : 0 < points → closed ring points ≡ true → closed (started_at k ring points) points ≡ true
@@ -89,9 +89,9 @@ module _ (ring : List ℤ) (points k : ℕ) (inside : k ≤ segments points) whe
   started_closed some shut =
       let n = segments points in
       let none : k + 0 ≡ k = omega arith in
-      let first = ring-points (from n k (point_at ring)) points 0 some ∙ ap (point_at ring) (before n (k + 0) (omega arith) ∙ none) in
+      let first = ring_points (from n k (point_at ring)) points 0 some ∙ ap (point_at ring) (before n (k + 0) (omega arith) ∙ none) in
       let last =
-      ring-points (from n k (point_at ring)) points n (omega arith)
+      ring_points (from n k (point_at ring)) points n (omega arith)
       ∙ past_end (point_at ring) n k inside (ends ring points shut) k (k + n) (omega arith) in
       ap₂ same_point first last ∙ same_point_lem (point_at ring k)
 
@@ -99,7 +99,7 @@ module _ (ring : List ℤ) (points k : ℕ) (inside : k ≤ segments points) whe
   unfolding started_at ring_checked
   started_sound sound =
       let a = sound_ring ring points sound in
-      let sizes = sym (ring-length (from (segments points) k (point_at ring)) points) in
+      let sizes = sym (ring_length (from (segments points) k (point_at ring)) points) in
       rw (
         le-ltb points 2 a.enough,
         le-ltb 4097 points a.few,

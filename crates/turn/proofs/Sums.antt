@@ -18,18 +18,18 @@ sum_same f g n e = sum_below f g n (λ i h. e i)
 regroup : (a b c d : ℤ) → (a +ℤ b) -ℤ (c +ℤ d) ≡ (a -ℤ c) +ℤ (b -ℤ d)
 regroup a b c d = rw (split a, split b, split c, split d) (simp (diff_add, diff_sub) (diff_same _ _ _ _ (omega arith)))
 
-pub sum-sub : (f g : ℕ → ℤ) (n : ℕ) → sum_to f n -ℤ sum_to g n ≡ sum_to (λ i. f i -ℤ g i) n
+pub sum_sub : (f g : ℕ → ℤ) (n : ℕ) → sum_to f n -ℤ sum_to g n ≡ sum_to (λ i. f i -ℤ g i) n
 unfolding sum_to
-sum-sub f g zero = refl
-sum-sub f g (suc n) = regroup (sum_to f n) (f n) (sum_to g n) (g n) ∙ ap (λ (z : ℤ). z +ℤ (f n -ℤ g n)) (sum-sub f g n)
+sum_sub f g zero = refl
+sum_sub f g (suc n) = regroup (sum_to f n) (f n) (sum_to g n) (g n) ∙ ap (λ (z : ℤ). z +ℤ (f n -ℤ g n)) (sum_sub f g n)
 
 exchange : (a b c d : ℤ) → (a +ℤ b) +ℤ (c +ℤ d) ≡ (a +ℤ c) +ℤ (b +ℤ d)
 exchange a b c d = rw (split a, split b, split c, split d) (simp (diff_add) (diff_same _ _ _ _ (omega arith)))
 
-pub sum-add : (f g : ℕ → ℤ) (n : ℕ) → sum_to (λ i. f i +ℤ g i) n ≡ sum_to f n +ℤ sum_to g n
+pub sum_add : (f g : ℕ → ℤ) (n : ℕ) → sum_to (λ i. f i +ℤ g i) n ≡ sum_to f n +ℤ sum_to g n
 unfolding sum_to
-sum-add f g zero = refl
-sum-add f g (suc n) = ap (λ (z : ℤ). z +ℤ (f n +ℤ g n)) (sum-add f g n) ∙ exchange (sum_to f n) (sum_to g n) (f n) (g n)
+sum_add f g zero = refl
+sum_add f g (suc n) = ap (λ (z : ℤ). z +ℤ (f n +ℤ g n)) (sum_add f g n) ∙ exchange (sum_to f n) (sum_to g n) (f n) (g n)
 
 between : (a b c : ℤ) → (a -ℤ b) +ℤ (b -ℤ c) ≡ a -ℤ c
 between a b c = rw (split a, split b, split c) (simp (diff_add, diff_sub) (diff_same _ _ _ _ (omega arith)))
@@ -44,12 +44,12 @@ sum_steps h zero = sym (cancel (h 0))
 sum_steps h (suc n) = ap (λ (z : ℤ). z +ℤ (h n -ℤ h (suc n))) (sum_steps h n) ∙ between (h 0) (h n) (h (suc n))
 
 -- a sum in two parts: the first m terms, and the n behind them
-pub sum-parts : (f : ℕ → ℤ) (m n : ℕ) → sum_to f (m + n) ≡ sum_to f m +ℤ sum_to (λ i. f (m + i)) n
+pub sum_parts : (f : ℕ → ℤ) (m n : ℕ) → sum_to f (m + n) ≡ sum_to f m +ℤ sum_to (λ i. f (m + i)) n
 unfolding sum_to
-sum-parts f m zero = let e : m + 0 ≡ m = omega arith in rw e (sym (+ℤ_idr (sum_to f m)))
-sum-parts f m (suc n) =
+sum_parts f m zero = let e : m + 0 ≡ m = omega arith in rw e (sym (+ℤ_idr (sum_to f m)))
+sum_parts f m (suc n) =
     let e : m + suc n ≡ suc (m + n) = omega arith in
-    rw e (ap (λ (z : ℤ). z +ℤ f (m + n)) (sum-parts f m n) ∙ +ℤ_assoc (sum_to f m) (sum_to (λ i. f (m + i)) n) (f (m + n)))
+    rw e (ap (λ (z : ℤ). z +ℤ f (m + n)) (sum_parts f m n) ∙ +ℤ_assoc (sum_to f m) (sum_to (λ i. f (m + i)) n) (f (m + n)))
 
 -- the first term, and those behind it
 pub sum_first : (f : ℕ → ℤ) (n : ℕ) → sum_to f (suc n) ≡ f 0 +ℤ sum_to (λ i. f (suc i)) n

@@ -1,4 +1,6 @@
 // The turn of a ring: the sign of its doubled area, which is summed exactly. A ring whose area is 0 has no turn.
+#![tactic(auto)]
+
 ghost use Rattle.std.specs.Prelude.{◌≡◌, true, ◌+◌, ◌*◌, ◌^◌, ◌<◌, ◌≤◌, ltb, pos, ◌-ℤ◌, length};
 ghost use Rattle.turn.specs.Turn.{sum_to, turn_of, number_of, turned};
 ghost use Rattle.turn.specs.Inner.Halves.{raised, product, value_of};

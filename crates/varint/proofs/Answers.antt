@@ -16,8 +16,8 @@ use Rattle.varint.specs.Leb128.{decode, size, encode}
 use Rattle.varint.specs.Uvarint.{most, tight, read_uvarint, append_uvarint}
 use Rattle.varint.specs.declared.ReadUvarint.TheVariants.{Value, Unread}
 use Rattle.varint.specs.declared.AppendUvarint.TheVariants.{Unappended}
-use Rattle.varint.proofs.Leb128.{encode-some}
-use Rattle.varint.proofs.Writing.{append-fits, append-short}
+use Rattle.varint.proofs.Leb128.{encode_some}
+use Rattle.varint.proofs.Writing.{append_fits, append_short}
 
 -- What a number that was read tells of the field that starts at its place: the field is complete, as short as its number allows, and the number has w bits.
 pub record Whole (w : ℕ) (part : List ℕ) (at x next : ℕ) : Type 0 where
@@ -85,7 +85,7 @@ module _ (w : ℕ) (part : List ℕ) (at : ℕ) where
   pub read_onward : (x next : ℕ) → read_uvarint w part at ≡ Value x next → (at < next) × (next ≤ length part)
   read_onward x next e =
       let r = read_whole x next e in
-      let some = encode-some x in
+      let some = encode_some x in
       let l = length-drop at part in
       (omega (arith, r.place), omega (arith, r.place, r.short, r.complete))
 
@@ -103,7 +103,7 @@ pub unappended_is_8 : (out : List ℕ) (at x : ℕ) (r : Refusal) (o : List ℕ)
 unappended_is_8 out at x r o e =
     ⊎_elim
     (λ (no : length out < at + length (encode x)).
-    let q = (both e (append-short out at x no)).0 in let d : r ≡ NoRoom = cc in (ap number_of d, ap place_of d))
+    let q = (both e (append_short out at x no)).0 in let d : r ≡ NoRoom = cc in (ap number_of d, ap place_of d))
     (λ (fits : at + length (encode x) ≤ length out).
-    let q = (both e (append-fits out at x fits)).0 in let z : ◌≡◌ {A = ℕ} 0 1 = cc in absurd (omega arith))
+    let q = (both e (append_fits out at x fits)).0 in let z : ◌≡◌ {A = ℕ} 0 1 = cc in absurd (omega arith))
     (lt_or (length out) (at + length (encode x)))

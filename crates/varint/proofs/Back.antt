@@ -11,13 +11,13 @@ use borrow.Author.Tests.{eq-eqb, lt-ltb}
 use Rattle.room.specs.Room.{write, Holds, pad}
 use Rattle.room.specs.Inner.Pour.{put_of}
 use Rattle.room.specs.declared.Put.TheVariants.{Past}
-use Rattle.room.proofs.Holds.{drop-holds, holds-drop, holds-take, holds-write}
+use Rattle.room.proofs.Holds.{drop_holds, holds_drop, holds_take, holds_write}
 use Rattle.room.proofs.Pour.{put_past}
 use Rattle.varint.specs.Leb128.{decode, size, encode}
 use Rattle.varint.specs.Uvarint.{tight, read_uvarint, append_uvarint}
 use Rattle.varint.specs.declared.ReadUvarint.TheVariants.{Value}
 use Rattle.varint.specs.declared.AppendUvarint.TheVariants.{Appended}
-use Rattle.varint.proofs.Leb128.{encode_back, encode-size, encode_width}
+use Rattle.varint.proofs.Leb128.{encode_back, encode_size, encode_width}
 use Rattle.varint.proofs.Writing.{appended}
 use Rattle.varint.proofs.Answers.{read_fits}
 
@@ -27,8 +27,8 @@ module _ (w : ℕ) (bits : 0 < w) (x : ℕ) (small : x < 2 ^ w) where
       → read_uvarint w part at ≡ Value x (at + length (encode x))
   holds_reads part at h =
       let rest = drop (at + length (encode x)) part in
-      let f = holds-drop part at (encode x) h in
-      let s : size (drop at part) ≡ length (encode x) = ap size f ∙ encode-size rest x in
+      let f = holds_drop part at (encode x) h in
+      let s : size (drop at part) ≡ length (encode x) = ap size f ∙ encode_size rest x in
       let d : decode (drop at part) ≡ x = ap decode f ∙ encode_back rest x in
       let l = ap length f ∙ length-append (encode x) rest in
       let good : tight w (drop at part) ≡ true = rw (s, d, eq-eqb (length (encode x)) (length (encode x)) refl, lt-ltb x (2 ^ w) small) in
@@ -40,14 +40,14 @@ module _ (w : ℕ) (bits : 0 < w) (x : ℕ) (small : x < 2 ^ w) where
       → read_uvarint w (take end (write out at (encode x))) at ≡ Value x (at + length (encode x))
   written_reads out at end f l =
       holds_reads (take end (write out at (encode x))) at
-      (holds-take (write out at (encode x)) at end (encode x) f (holds-write out at (encode x) l))
+      (holds_take (write out at (encode x)) at end (encode x) f (holds_write out at (encode x) l))
 
-  holds-pad : (out : List ℕ) (at : ℕ) → at + length (encode x) ≤ length out
+  holds_pad : (out : List ℕ) (at : ℕ) → at + length (encode x) ≤ length out
       → Holds (pad (length out) (take at out ++ encode x)) at (encode x)
   unfolding pad
-  holds-pad out at h =
+  holds_pad out at h =
       let zeros : List ℕ = replicate (length out - length (take at out ++ encode x)) 0 in
-      drop-holds (take at out ++ encode x ++ zeros) at (encode x) zeros
+      drop_holds (take at out ++ encode x ++ zeros) at (encode x) zeros
       (rw (append_assoc (take at out) (encode x) zeros)
       (drop_at (take at out) (encode x ++ zeros) at (length-take-le at out (omega arith))))
 
@@ -64,7 +64,7 @@ module _ (w : ℕ) (bits : 0 < w) (x : ℕ) (small : x < 2 ^ w) where
       let p = appended out at x next o e in
       rw (p.1, p.2)
       (holds_reads (take end (pad (length out) (take at out ++ encode x))) at
-      (holds-take (pad (length out) (take at out ++ encode x)) at end (encode x) (omega arith) (holds-pad out at p.0)))
+      (holds_take (pad (length out) (take at out ++ encode x)) at end (encode x) (omega arith) (holds_pad out at p.0)))
 
 -- for every number of 64 bits
 pub back_64 : (x : ℕ) → x < 2 ^ 64 → (out : List ℕ) (at next : ℕ) (o : List ℕ) (end : ℕ)

@@ -18,7 +18,7 @@ use Rattle.varint.specs.declared.AppendUvarint.TheVariants.{Appended}
 use Rattle.varint.proofs.Answers.{read_whole, read_onward}
 use Rattle.varint.proofs.Back.{holds_reads}
 use Rattle.varint.proofs.Shortest.{shortest_bytes}
-use Rattle.varint.proofs.Writing.{append-fits}
+use Rattle.varint.proofs.Writing.{append_fits}
 
 pub bytes_drop : (bs : List ℕ) (n : ℕ) → Bytes bs → Bytes (drop n bs)
 bytes_drop bs n h i = rw get_or-drop (h (n + i))
@@ -70,4 +70,4 @@ unfolding Holds
 read_append w part at x next bytes e =
     let r = read_stands w part at x next bytes e in
     let t : take next part ≡ take at part ++ encode x = ap (λ (n : ℕ). take n part) r.place ∙ take-add at (length (encode x)) part ∙ ap (λ (l : List ℕ). take at part ++ l) r.stands in
-    append-fits part at x (omega (arith, r.place, read_onward w part at x next e)) ∙ rw (t, r.place)
+    append_fits part at x (omega (arith, r.place, read_onward w part at x next e)) ∙ rw (t, r.place)

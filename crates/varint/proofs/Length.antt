@@ -12,11 +12,11 @@ use lib.Pow.{pow_mono}
 use Rattle.room.proofs.Cases.{lt_or}
 use Rattle.varint.specs.Leb128.{encode}
 use Rattle.varint.specs.Uvarint.{most}
-use Rattle.varint.proofs.Leb128.{encode-last, encode_more, encode-some, encode_width, pow_128}
+use Rattle.varint.proofs.Leb128.{encode_last, encode_more, encode_some, encode_width, pow_128}
 
 -- a number from 128 ^ k on takes over k bytes
 length_over : (k x : ℕ) → 128 ^ k ≤ x → k < length (encode x)
-length_over zero x h = encode-some x
+length_over zero x h = encode_some x
 length_over (suc k) x h =
     let e = pow-suc 128 k in
     let q : 128 ^ k ≤ x / 128 = (le-div_iff_mul-le {k = 128} {x = 128 ^ k} {y = x} (lit< tt)).1 (omega arith) in
@@ -30,9 +30,9 @@ length_bits j x l h =
     omega (arith, length_over (j / 7) x low, encode_width (suc j) x (omega arith) h)
 
 -- numbers that differ in their lowest seven bits only are as long
-length-low : (x y : ℕ) → x / 128 ≡ y / 128 → length (encode x) ≡ length (encode y)
-length-low x y e =
-    ⊎_elim (λ (l : x < 128). ap length (encode-last x l) ∙ sym (ap length (encode-last y (omega arith))))
+length_low : (x y : ℕ) → x / 128 ≡ y / 128 → length (encode x) ≡ length (encode y)
+length_low x y e =
+    ⊎_elim (λ (l : x < 128). ap length (encode_last x l) ∙ sym (ap length (encode_last y (omega arith))))
     (λ (l : 128 ≤ x). ap length (encode_more x l) ∙ ap (λ (n : ℕ). suc (length (encode n))) e ∙ sym (ap length (encode_more y (omega arith))))
     (lt_or x 128)
 
@@ -47,7 +47,7 @@ length_leading w x p h =
     let y = bit_or x 1 in
     let e = odd x in
     let t = leading_top w y (omega arith) (or_lt w x 1 h (le_trans (lit≤ tt) (pow_mono {i = 1} {j = w} p))) in
-    (omega (arith, t.1), omega arith, length-low x y (omega arith) ∙ length_bits t.0 y t.2 t.3 ∙ ap most (omega (arith, t.1)))
+    (omega (arith, t.1), omega arith, length_low x y (omega arith) ∙ length_bits t.0 y t.2 t.3 ∙ ap most (omega (arith, t.1)))
 
 -- nine sixty-fourths, up to 64 bits
 pub most_64 : (bits : ℕ) → 0 < bits → bits ≤ 64 → (bits * 9 + 64) / 64 ≡ most bits

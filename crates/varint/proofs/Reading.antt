@@ -16,7 +16,7 @@ use Rattle.varint.specs.Leb128.{decode, size}
 use Rattle.varint.specs.Uvarint.{most, read_uvarint}
 use Rattle.varint.specs.declared.ReadUvarint.{ReadUvarint}
 use Rattle.varint.specs.declared.ReadUvarint.TheVariants.{Value, Unread}
-use Rattle.varint.proofs.Leb128.{decode-last, decode_more, size-last, size_more, size-some}
+use Rattle.varint.proofs.Leb128.{decode_last, decode_more, size_last, size_more, size_some}
 use Rattle.varint.proofs.Shortest.{shortest, shortest_last, shortest_more, shortest_none, zero_or}
 
 module _ (w start : ℕ) where
@@ -45,10 +45,10 @@ module _ (w start : ℕ) where
   module _ (n b : ℕ) (bs : List ℕ) (p x v : ℕ) (h : 0 < n) (l : b < 128) where
     on_end : read_on n (b ∷ bs) p x v ≡ cond (not (eqb b 0 && ltb start p) && ltb (x + b * v) (2 ^ w)) (Value (x + b * v) (p + 1)) (Unread (Loose start))
     on_end =
-        let s = size-last b bs l in
+        let s = size_last b bs l in
         on_whole n (b ∷ bs) p x v (omega arith)
         ∙ rw (shortest_last b bs l)
-        (ap₂ (λ (d k : ℕ). cond (not (eqb d 0 && ltb start p) && ltb (x + d * v) (2 ^ w)) (Value (x + d * v) (p + k)) (Unread (Loose start))) (decode-last b bs l) s)
+        (ap₂ (λ (d k : ℕ). cond (not (eqb d 0 && ltb start p) && ltb (x + d * v) (2 ^ w)) (Value (x + d * v) (p + k)) (Unread (Loose start))) (decode_last b bs l) s)
 
     on_last : (eqb b 0 && ltb start p) ≡ false → x + b * v < 2 ^ w → read_on n (b ∷ bs) p x v ≡ Value (x + b * v) (p + 1)
     on_last z k = on_end ∙ rw (z, lt-ltb (x + b * v) (2 ^ w) k)
@@ -139,7 +139,7 @@ module _ (w start : ℕ) (src : List ℕ) (end : ℕ) where
       at_out h l =
           let bs = drop (p + 1) (take end src) in
           rw (next_byte p inside)
-          (on_not w start n (get_or src p 0 ∷ bs) p x v (omega (arith, size_more (get_or src p 0) bs l, size-some bs)))
+          (on_not w start n (get_or src p 0 ∷ bs) p x v (omega (arith, size_more (get_or src p 0) bs l, size_some bs)))
 
 pub read_at : (w : ℕ) (src : List ℕ) (at end : ℕ) → read_uvarint w (take end src) at ≡ read_at_lem w at src end (most w) at 0 1
 unfolding read_at_lem

@@ -48,6 +48,6 @@ unfolding append_uvarint encode encode_in pad
 append_300 = refl
 
 -- one byte is too little room
-pub append-short : append_uvarint (9 ∷ 9 ∷ []) 1 300 ≡ (Unappended NoRoom, 0 ∷ 0 ∷ [])
+pub append_short : append_uvarint (9 ∷ 9 ∷ []) 1 300 ≡ (Unappended NoRoom, 0 ∷ 0 ∷ [])
 unfolding append_uvarint encode encode_in pad
-append-short = refl
+append_short = refl

@@ -12,44 +12,44 @@ use Rattle.room.specs.Room.{write, pad}
 use Rattle.room.specs.Inner.Pour.{put_of}
 use Rattle.room.specs.declared.Put.TheVariants.{Past, Short}
 use Rattle.room.proofs.Cases.{lt_or, both}
-use Rattle.room.proofs.Fill.{pad-none}
-use Rattle.room.proofs.Pour.{put_past, put-not}
-use Rattle.room.proofs.Write.{write_eq, write-length}
+use Rattle.room.proofs.Fill.{pad_none}
+use Rattle.room.proofs.Pour.{put_past, put_not}
+use Rattle.room.proofs.Write.{write_eq, write_length}
 use Rattle.varint.specs.Leb128.{encode}
 use Rattle.varint.specs.Uvarint.{append_uvarint}
 use Rattle.varint.specs.declared.AppendUvarint.TheVariants.{Appended, Unappended}
 
 -- the used part after a run written where it fits
-take-write : (o : List ℕ) (at : ℕ) (vs : List ℕ) → at + length vs ≤ length o
+take_write : (o : List ℕ) (at : ℕ) (vs : List ℕ) → at + length vs ≤ length o
     → take (at + length vs) (write o at vs) ≡ take at o ++ vs
-take-write o at vs h =
+take_write o at vs h =
     ap (λ (l : List ℕ). take (at + length vs) l) (write_eq o at vs h)
     ∙ take_at (take at o ++ vs) (drop (at + length vs) o) (at + length vs)
     (length-append (take at o) vs ∙ ap (λ (n : ℕ). n + length vs) (length-take-le at o (omega arith)))
 
 module _ (out : List ℕ) (at x : ℕ) where
-  pub append-fits : at + length (encode x) ≤ length out
+  pub append_fits : at + length (encode x) ≤ length out
       → append_uvarint out at x ≡ (Appended (at + length (encode x)), pad (length out) (take at out ++ encode x))
   unfolding append_uvarint
-  append-fits h = rw (le-leb (at + length (encode x)) (length out) h)
+  append_fits h = rw (le-leb (at + length (encode x)) (length out) h)
 
-  pub append-short : length out < at + length (encode x)
+  pub append_short : length out < at + length (encode x)
       → append_uvarint out at x ≡ (Unappended NoRoom, replicate (length out) 0)
   unfolding append_uvarint
-  append-short h = rw (lt-leb (at + length (encode x)) (length out) h)
+  append_short h = rw (lt-leb (at + length (encode x)) (length out) h)
 
   -- by how the bytes were put
   pub append_past : (next : ℕ) (o : List ℕ) → put_of (encode x) at out ≡ (Past next, o)
       → append_uvarint out at x ≡ (Appended next, pad (length o) (take next o))
   append_past next o e =
       let p = put_past (encode x) at next out o e in
-      append-fits p.0 ∙ rw (p.1, p.2, write-length, take-write out at (encode x) p.0)
+      append_fits p.0 ∙ rw (p.1, p.2, write_length, take_write out at (encode x) p.0)
 
-  pub append-not : (o : List ℕ) → put_of (encode x) at out ≡ (Short, o)
+  pub append_not : (o : List ℕ) → put_of (encode x) at out ≡ (Short, o)
       → append_uvarint out at x ≡ (Unappended NoRoom, pad (length o) (take 0 o))
-  append-not o e =
-      let p = put-not (encode x) at out o e in
-      append-short p.0 ∙ rw p.1 (ap (λ (l : List ℕ). (Unappended NoRoom, l)) (sym (pad-none (length out))))
+  append_not o e =
+      let p = put_not (encode x) at out o e in
+      append_short p.0 ∙ rw p.1 (ap (λ (l : List ℕ). (Unappended NoRoom, l)) (sym (pad_none (length out))))
 
   -- what a success tells
   pub appended : (next : ℕ) (o : List ℕ) → append_uvarint out at x ≡ (Appended next, o)
@@ -59,9 +59,9 @@ module _ (out : List ℕ) (at x : ℕ) where
   appended next o e =
       ⊎_elim
       (λ (no : length out < at + length (encode x)).
-      let q = (both e (append-short no)).0 in let z : ◌≡◌ {A = ℕ} 0 1 = cc in absurd (omega arith))
+      let q = (both e (append_short no)).0 in let z : ◌≡◌ {A = ℕ} 0 1 = cc in absurd (omega arith))
       (λ (fits : at + length (encode x) ≤ length out).
-      let b = both e (append-fits fits) in
+      let b = both e (append_fits fits) in
       let q = b.0 in
       let n : next ≡ at + length (encode x) = cc in (fits, n, b.1))
       (lt_or (length out) (at + length (encode x)))

@@ -1,6 +1,8 @@
 // Unsigned LEB128 numbers (DWARF 5, section 7.6), low seven bits first: `append_uvarint` and
 // `read_uvarint`, and what the packing of a tree needs of them. Each promise is an equality, so that
 // it leaves room for one answer and one content only.
+#![tactic(auto)]
+
 ghost use Rattle.std.specs.Prelude.{◌≡◌, ◌+◌, ◌≤◌, min, length, take};
 ghost use Rattle.room.specs.Room.{write};
 ghost use Rattle.room.specs.Inner.Pour.{put_of};

@@ -3,7 +3,7 @@ use Rattle.std.proofs.Common.{◌≡◌, ℕ, suc, ◌+◌, ◌-◌, ◌*◌, �
 use lib.Ieee.{Float, nan, inf, fin, binary64, up, down, lt, fits, of_int, to_unsigned, in_float}
 use lib.Ieee.Fits.{down_pos}
 use lib.Ieee.Exact.{HasValue}
-use Rattle.floats.proofs.Ints.{ltb_scale, whole-value}
+use Rattle.floats.proofs.Ints.{ltb_scale, whole_value}
 use Rattle.whole.specs.Floor.{floor_within}
 use Rattle.whole.specs.Inner.Sizes.{ceiling_size}
 use Rattle.whole.proofs.Within.{MAX, whole_part}
@@ -109,7 +109,7 @@ small_float k l = le→leb k (2 ^ 53) (le_of_lt l)
 
 module _ (x : Float) (k : ℕ) (p : k ≡ floor_within MAX x) where
   test : k < 2 ^ 53 → lt (of_int binary64 (pos k)) x ≡ passes x k
-  test l = test_is (of_int binary64 (pos k)) x k (whole-value (pos k) (le_of_lt l))
+  test l = test_is (of_int binary64 (pos k)) x k (whole_value (pos k) (le_of_lt l))
 
   pub way_more : k < 2 ^ 53 → lt (of_int binary64 (pos k)) x ≡ true → k + 1 ≡ ceiling_size x
   way_more l h = more k x (whole_part x k p) l (sym (test l) ∙ h)

@@ -8,7 +8,7 @@ use lib.Ieee.Nearest.{div_mono}
 use Rattle.floats.proofs.Parts.{Cross≤, crossed}
 use Rattle.whole.specs.Held.{signed, held, first, last}
 use Rattle.whole.specs.Floor.{Floor, floor_of, FloorTo, floor_to}
-use Rattle.whole.proofs.Held.{held-meets, held_only, clamp-low, clamp-high, clamp_mono}
+use Rattle.whole.proofs.Held.{held_meets, held_only, clamp_low, clamp_high, clamp_mono}
 use Rattle.whole.proofs.Integers.{neg_le, le_neg, neg_le_pos, le_z_refl, ≤ℤ_antisym}
 
 pub floor_meets : (v : ℤ) (d : ℕ) → 0 < d → Floor v d (floor_of v d)
@@ -69,26 +69,26 @@ module _ (lo hi : ℤ) (o : T (le_z lo hi)) where
   held_mono (inf true) (inf false) h = o
   held_mono (inf false) (inf true) h = absurd h
   held_mono (inf false) (inf false) h = le_z_refl hi
-  held_mono (inf true) (fin t n d) h = clamp-low lo hi o (floor_of (signed t (n * up d)) (down d))
+  held_mono (inf true) (fin t n d) h = clamp_low lo hi o (floor_of (signed t (n * up d)) (down d))
   held_mono (inf false) (fin t n d) h = absurd h
   held_mono (fin s m e) nan h = absurd h
   held_mono (fin s m e) (inf true) h = absurd h
-  held_mono (fin s m e) (inf false) h = clamp-high lo hi o (floor_of (signed s (m * up e)) (down e))
+  held_mono (fin s m e) (inf false) h = clamp_high lo hi o (floor_of (signed s (m * up e)) (down e))
   held_mono (fin s m e) (fin t n d) h =
       clamp_mono lo hi o (floor_of (signed s (m * up e)) (down e)) (floor_of (signed t (n * up d)) (down d))
       (floor_of_mono s t (m * up e) (down e) (n * up d) (down d) (down_pos e) (down_pos d) (crossed s m e t n d h))
 
 -- ---- over the width
-ends-ordered : (h : ℕ) → T (le_z (first h) (last h))
-ends-ordered h = neg_le_pos (2 ^ h) (2 ^ h - 1)
+ends_ordered : (h : ℕ) → T (le_z (first h) (last h))
+ends_ordered h = neg_le_pos (2 ^ h) (2 ^ h - 1)
 
 pub floor_to_meets : (h : ℕ) (x : Float) → FloorTo h x (floor_to h x)
 unfolding floor_to
-floor_to_meets h x = held-meets Floor (first h) (last h) floor_of floor_meets x
+floor_to_meets h x = held_meets Floor (first h) (last h) floor_of floor_meets x
 
 pub floor_to_only : (h : ℕ) (x : Float) (z z' : ℤ) → FloorTo h x z → FloorTo h x z' → z ≡ z'
 floor_to_only h x z z' p q = held_only Floor (first h) (last h) (λ v d k k' D. floor_only v d k k') x z z' p q
 
 pub floor_mono : (h : ℕ) (x y : Float) → T (le x y) → floor_to h x ≤ℤ floor_to h y
 unfolding floor_to
-floor_mono h x y k = record { le = held_mono (first h) (last h) (ends-ordered h) x y k }
+floor_mono h x y k = record { le = held_mono (first h) (last h) (ends_ordered h) x y k }

@@ -7,11 +7,11 @@ use Rattle.whole.specs.Held.{signed, clamp, Held, held}
 use Rattle.whole.proofs.Integers.{le_z_refl, le_z_trans, not_lt_z, lt_z_le_z, clash}
 
 module _ (R : ℤ → ℕ → ℤ → Type 0) (lo hi : ℤ) where
-  pub held-meets : (g : ℤ → ℕ → ℤ) → ((v : ℤ) (d : ℕ) → 0 < d → R v d (g v d)) → (x : Float) → Held R lo hi x (held g lo hi x)
-  held-meets g all nan = refl
-  held-meets g all (inf true) = refl
-  held-meets g all (inf false) = refl
-  held-meets g all (fin s m e) = (g (signed s (m * up e)) (down e), all (signed s (m * up e)) (down e) (down_pos e), refl)
+  pub held_meets : (g : ℤ → ℕ → ℤ) → ((v : ℤ) (d : ℕ) → 0 < d → R v d (g v d)) → (x : Float) → Held R lo hi x (held g lo hi x)
+  held_meets g all nan = refl
+  held_meets g all (inf true) = refl
+  held_meets g all (inf false) = refl
+  held_meets g all (fin s m e) = (g (signed s (m * up e)) (down e), all (signed s (m * up e)) (down e) (down_pos e), refl)
 
   pub held_only : ((v : ℤ) (d : ℕ) (k k' : ℤ) → 0 < d → R v d k → R v d k' → k ≡ k') → (x : Float) (z z' : ℤ) → Held R lo hi x z → Held R lo hi x z' → z ≡ z'
   held_only one nan z z' p q = p ∙ sym q
@@ -21,16 +21,16 @@ module _ (R : ℤ → ℕ → ℤ → Type 0) (lo hi : ℤ) where
 
 -- ---- between the ends, and rising
 module _ (lo hi : ℤ) (o : T (le_z lo hi)) where
-  pub clamp-low : (k : ℤ) → T (le_z lo (clamp lo hi k))
-  clamp-low k = go (lt_z k lo) (lt_z hi k) refl
+  pub clamp_low : (k : ℤ) → T (le_z lo (clamp lo hi k))
+  clamp_low k = go (lt_z k lo) (lt_z hi k) refl
     where
       go : (a b : Bool) → lt_z k lo ≡ a → T (le_z lo (cond a lo (cond b hi k)))
       go true b e = le_z_refl lo
       go false true e = o
       go false false e = not_lt_z k lo e
 
-  pub clamp-high : (k : ℤ) → T (le_z (clamp lo hi k) hi)
-  clamp-high k = go (lt_z k lo) (lt_z hi k) refl
+  pub clamp_high : (k : ℤ) → T (le_z (clamp lo hi k) hi)
+  clamp_high k = go (lt_z k lo) (lt_z hi k) refl
     where
       go : (a b : Bool) → lt_z hi k ≡ b → T (le_z (cond a lo (cond b hi k)) hi)
       go true b e = o
@@ -51,6 +51,6 @@ module _ (lo hi : ℤ) (o : T (le_z lo hi)) where
       inside e false false u = h
 
       go : (a b : Bool) → lt_z j lo ≡ a → lt_z hi j ≡ b → T (le_z (cond a lo (cond b hi j)) (clamp lo hi k))
-      go true b e u = clamp-low k
+      go true b e u = clamp_low k
       go false true e u = above u (lt_z k lo) (lt_z hi k) refl
       go false false e u = inside u (lt_z k lo) (lt_z hi k) refl

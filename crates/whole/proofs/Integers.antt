@@ -74,7 +74,7 @@ across a (suc b) = refl
 pub apart_neg : (u w : ℤ) → nat_abs (neg_ℤ u -ℤ neg_ℤ w) ≡ nat_abs (u -ℤ w)
 apart_neg u w = ap nat_abs (sym (neg_ℤ-+ℤ u (neg_ℤ w))) ∙ nat_abs_neg (u -ℤ w)
 
-pub neg-mul : (j : ℤ) (d : ℕ) → neg_ℤ j *ℤ pos d ≡ neg_ℤ (j *ℤ pos d)
-neg-mul (pos zero) d = rw zero-mul
-neg-mul (pos (suc i)) d = refl
-neg-mul (negsuc i) d = sym (neg_ℤ-neg_ℤ (pos (suc i * d)))
+pub neg_mul : (j : ℤ) (d : ℕ) → neg_ℤ j *ℤ pos d ≡ neg_ℤ (j *ℤ pos d)
+neg_mul (pos zero) d = rw zero-mul
+neg_mul (pos (suc i)) d = refl
+neg_mul (negsuc i) d = sym (neg_ℤ-neg_ℤ (pos (suc i * d)))

@@ -5,8 +5,8 @@ use lib.IntN.{neg_ℤ-neg_ℤ}
 use lib.Ieee.{Float}
 use Rattle.whole.specs.Held.{first, last}
 use Rattle.whole.specs.Round.{far, NearestAway, round_of, RoundTo, round_to}
-use Rattle.whole.proofs.Held.{held-meets, held_only}
-use Rattle.whole.proofs.Integers.{nat_abs_neg, apart, across, apart_neg, neg-mul}
+use Rattle.whole.proofs.Held.{held_meets, held_only}
+use Rattle.whole.proofs.Integers.{nat_abs_neg, apart, across, apart_neg, neg_mul}
 
 -- ---- of a / d
 module _ (a d : ℕ) (D : 0 < d) where
@@ -51,16 +51,16 @@ module _ (a d : ℕ) (D : 0 < d) where
       away (negsuc i) h = let k : a + suc i * d ≡ a - q * d + (q * d - a) = rw (apart a (q * d), across a (suc i * d)) at h in omega (arith, low, high, D)
 
 -- ---- and of -a / d
-far-neg : (v : ℤ) (d : ℕ) (j : ℤ) → far (neg_ℤ v) d (neg_ℤ j) ≡ far v d j
-far-neg v d j = ap (λ (z : ℤ). nat_abs (neg_ℤ v -ℤ z)) (neg-mul j d) ∙ apart_neg v (j *ℤ pos d)
+far_neg : (v : ℤ) (d : ℕ) (j : ℤ) → far (neg_ℤ v) d (neg_ℤ j) ≡ far v d j
+far_neg v d j = ap (λ (z : ℤ). nat_abs (neg_ℤ v -ℤ z)) (neg_mul j d) ∙ apart_neg v (j *ℤ pos d)
 
 far_back : (v : ℤ) (d : ℕ) (j : ℤ) → far (neg_ℤ v) d j ≡ far v d (neg_ℤ j)
-far_back v d j = ap (far (neg_ℤ v) d) (sym (neg_ℤ-neg_ℤ j)) ∙ far-neg v d (neg_ℤ j)
+far_back v d j = ap (far (neg_ℤ v) d) (sym (neg_ℤ-neg_ℤ j)) ∙ far_neg v d (neg_ℤ j)
 
 mirror : (v : ℤ) (d : ℕ) (k : ℤ) → NearestAway v d k → NearestAway (neg_ℤ v) d (neg_ℤ k)
 mirror v d k n = record {
-  nearest = λ j. rw (far-neg v d k, far_back v d j) (n.nearest (neg_ℤ j));
-  away = λ j h. rw (nat_abs_neg k, ← nat_abs_neg j) (n.away (neg_ℤ j) (sym (far_back v d j) ∙ h ∙ far-neg v d k));
+  nearest = λ j. rw (far_neg v d k, far_back v d j) (n.nearest (neg_ℤ j));
+  away = λ j h. rw (nat_abs_neg k, ← nat_abs_neg j) (n.away (neg_ℤ j) (sym (far_back v d j) ∙ h ∙ far_neg v d k));
 }
 
 pub round_meets : (v : ℤ) (d : ℕ) → 0 < d → NearestAway v d (round_of v d)
@@ -69,13 +69,13 @@ round_meets (pos n) d D = nearest_pos n d D
 round_meets (negsuc n) d D = mirror (pos (suc n)) d (pos ((2 * suc n + d) / (2 * d))) (nearest_pos (suc n) d D)
 
 -- ---- there is one: it has the sign of v, and two that are as near have one size
-not-below : (a d : ℕ) (j : ℕ) → 0 < d → NearestAway (pos a) d (negsuc j) → ⊥
-not-below a d j D n =
+not_below_lem : (a d : ℕ) (j : ℕ) → 0 < d → NearestAway (pos a) d (negsuc j) → ⊥
+not_below_lem a d j D n =
     let h : a + suc j * d ≤ a - 0 * d + (0 * d - a) = rw (across a (suc j * d), apart a (0 * d)) at (n.nearest (pos 0)) in
     omega (arith, D)
 
-not-above : (n d : ℕ) (j : ℕ) → 0 < d → NearestAway (negsuc n) d (pos (suc j)) → ⊥
-not-above n d j D p = not-below (suc n) d j D (mirror (negsuc n) d (pos (suc j)) p)
+not_above : (n d : ℕ) (j : ℕ) → 0 < d → NearestAway (negsuc n) d (pos (suc j)) → ⊥
+not_above n d j D p = not_below_lem (suc n) d j D (mirror (negsuc n) d (pos (suc j)) p)
 
 one_size : (v : ℤ) (d : ℕ) (k k' : ℤ) → NearestAway v d k → NearestAway v d k' → nat_abs k ≡ nat_abs k'
 one_size v d k k' p q =
@@ -83,17 +83,17 @@ one_size v d k k' p q =
     le_antisymm (q.away k e) (p.away k' (sym e))
 
 pub round_only : (v : ℤ) (d : ℕ) (k k' : ℤ) → 0 < d → NearestAway v d k → NearestAway v d k' → k ≡ k'
-round_only (pos a) d (negsuc i) k' D p q = absurd (not-below a d i D p)
-round_only (pos a) d (pos i) (negsuc j) D p q = absurd (not-below a d j D q)
+round_only (pos a) d (negsuc i) k' D p q = absurd (not_below_lem a d i D p)
+round_only (pos a) d (pos i) (negsuc j) D p q = absurd (not_below_lem a d j D q)
 round_only (pos a) d (pos i) (pos j) D p q = ap pos (one_size (pos a) d (pos i) (pos j) p q)
-round_only (negsuc n) d (pos (suc i)) k' D p q = absurd (not-above n d i D p)
-round_only (negsuc n) d (pos zero) (pos (suc j)) D p q = absurd (not-above n d j D q)
+round_only (negsuc n) d (pos (suc i)) k' D p q = absurd (not_above n d i D p)
+round_only (negsuc n) d (pos zero) (pos (suc j)) D p q = absurd (not_above n d j D q)
 round_only (negsuc n) d (pos zero) (pos zero) D p q = refl
 round_only (negsuc n) d (pos zero) (negsuc j) D p q = absurd (clash (one_size (negsuc n) d (pos 0) (negsuc j) p q))
   where
     clash : 0 ≡ suc j → ⊥
     clash h = omega arith
-round_only (negsuc n) d (negsuc i) (pos (suc j)) D p q = absurd (not-above n d j D q)
+round_only (negsuc n) d (negsuc i) (pos (suc j)) D p q = absurd (not_above n d j D q)
 round_only (negsuc n) d (negsuc i) (pos zero) D p q = absurd (clash (one_size (negsuc n) d (negsuc i) (pos 0) p q))
   where
     clash : suc i ≡ 0 → ⊥
@@ -106,7 +106,7 @@ round_only (negsuc n) d (negsuc i) (negsuc j) D p q = ap negsuc (less (one_size 
 -- ---- over the width
 pub round_to_meets : (h : ℕ) (x : Float) → RoundTo h x (round_to h x)
 unfolding round_to
-round_to_meets h x = held-meets NearestAway (first h) (last h) round_of round_meets x
+round_to_meets h x = held_meets NearestAway (first h) (last h) round_of round_meets x
 
 pub round_to_only : (h : ℕ) (x : Float) (z z' : ℤ) → RoundTo h x z → RoundTo h x z' → z ≡ z'
 round_to_only h x z z' p q = held_only NearestAway (first h) (last h) round_only x z z' p q

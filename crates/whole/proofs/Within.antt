@@ -7,7 +7,7 @@ use lib.Ieee.Fits.{down_pos}
 use lib.Ieee.Casts.{to_unsigned-lt}
 use Rattle.whole.specs.Held.{signed, clamp, Held, held, first, last}
 use Rattle.whole.specs.Floor.{Floor, floor_of, FloorWithin, floor_within, floor_to}
-use Rattle.whole.proofs.Held.{held-meets, held_only, clamp-low}
+use Rattle.whole.proofs.Held.{held_meets, held_only, clamp_low}
 use Rattle.whole.proofs.Floors.{floor_meets, floor_only, held_mono}
 use Rattle.whole.proofs.Width.{clamp_top, clamp_plus, first_is}
 
@@ -19,10 +19,10 @@ within_pos top (inf true) = refl
 within_pos top (inf false) = refl
 within_pos top (fin s m e) =
     let z = clamp (pos 0) (pos top) (floor_of (signed s (m * up e)) (down e)) in
-    pos-nat_abs z (yes_non_neg {z = z} (le_z_yes (clamp-low (pos 0) (pos top) (le→leb 0 top zero-le) (floor_of (signed s (m * up e)) (down e)))))
+    pos-nat_abs z (yes_non_neg {z = z} (le_z_yes (clamp_low (pos 0) (pos top) (le→leb 0 top zero-le) (floor_of (signed s (m * up e)) (down e)))))
 
-pub within-meets : (top : ℕ) (x : Float) → FloorWithin top x (floor_within top x)
-within-meets top x = subst (λ (z : ℤ). Held Floor (pos 0) (pos top) x z) (sym (within_pos top x)) (held-meets Floor (pos 0) (pos top) floor_of floor_meets x)
+pub within_meets : (top : ℕ) (x : Float) → FloorWithin top x (floor_within top x)
+within_meets top x = subst (λ (z : ℤ). Held Floor (pos 0) (pos top) x z) (sym (within_pos top x)) (held_meets Floor (pos 0) (pos top) floor_of floor_meets x)
 
 pub within_only : (top : ℕ) (x : Float) (r r' : ℕ) → FloorWithin top x r → FloorWithin top x r' → r ≡ r'
 within_only top x r r' p q = ap nat_abs (held_only Floor (pos 0) (pos top) (λ v d k k' D. floor_only v d k k') x (pos r) (pos r') p q)
@@ -117,7 +117,7 @@ module _ (x : Float) (top : ℕ) (t : top < 2 ^ 64) where
   promise : (r : ℕ) → r ≡ min (to_unsigned 64 x) top → FloorWithin top x r × (r ≡ floor_within top x)
   promise r e =
       let k : r ≡ floor_within top x = e ∙ sym (within_is top x t) in
-      (subst (λ (z : ℕ). FloorWithin top x z) (sym k) (within-meets top x), k)
+      (subst (λ (z : ℕ). FloorWithin top x z) (sym k) (within_meets top x), k)
 
   pub way_in : (k : ℕ) → k ≡ to_unsigned 64 x → k < top → FloorWithin top x k × (k ≡ floor_within top x)
   way_in k e l = promise k (let u : k ≡ min k top = omega arith in subst (λ (z : ℕ). k ≡ min z top) e u)
@@ -132,12 +132,12 @@ module _ (x : Float) (top : ℕ) (t : top < 2 ^ 64) where
   way_none k = promise 0 (at_nought x top k)
 
 -- ---- it is the floor of an h that has room for top, held once more: Rust's `(x.floor() as isize).clamp(0, top)`
-clamp-first : (h top : ℕ) (k : ℤ) → top < 2 ^ h → clamp (pos 0) (pos top) (clamp (first h) (last h) k) ≡ clamp (pos 0) (pos top) k
-clamp-first h top (pos n) t = ap (clamp (pos 0) (pos top)) (clamp_plus h n) ∙ clamp_top top (min n (2 ^ h - 1)) ∙ ap pos same ∙ sym (clamp_top top n)
+clamp_first : (h top : ℕ) (k : ℤ) → top < 2 ^ h → clamp (pos 0) (pos top) (clamp (first h) (last h) k) ≡ clamp (pos 0) (pos top) k
+clamp_first h top (pos n) t = ap (clamp (pos 0) (pos top)) (clamp_plus h n) ∙ clamp_top top (min n (2 ^ h - 1)) ∙ ap pos same ∙ sym (clamp_top top n)
   where
     same : min (min n (2 ^ h - 1)) top ≡ min n top
     same = omega arith
-clamp-first h top (negsuc n) t = rw (first_is h) (go (ltb (2 ^ h - 1) n))
+clamp_first h top (negsuc n) t = rw (first_is h) (go (ltb (2 ^ h - 1) n))
   where
     go : (b : Bool) → clamp (pos 0) (pos top) (cond b (negsuc (2 ^ h - 1)) (negsuc n)) ≡ pos 0
     go true = refl
@@ -154,4 +154,4 @@ within_floor h top (inf false) t = within_pos top (inf false) ∙ sym (clamp_top
   where
     full : min (2 ^ h - 1) top ≡ top
     full = omega arith
-within_floor h top (fin s m e) t = within_pos top (fin s m e) ∙ sym (clamp-first h top (floor_of (signed s (m * up e)) (down e)) t)
+within_floor h top (fin s m e) t = within_pos top (fin s m e) ∙ sym (clamp_first h top (floor_of (signed s (m * up e)) (down e)) t)

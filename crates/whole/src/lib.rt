@@ -1,5 +1,7 @@
 // Floats to whole numbers: floor, and rounding with halves away from zero. Every function takes any
 // float.
+#![tactic(auto)]
+
 ghost use Rattle.std.specs.Prelude.{◌≡◌};
 ghost use Rattle.whole.specs.Held.{signed, clamp, first, last};
 ghost use Rattle.whole.specs.Floor.{FloorTo, floor_to, FloorWithin, floor_within};

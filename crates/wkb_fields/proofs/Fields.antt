@@ -12,8 +12,8 @@ use Rattle.wkb_fields.specs.declared.ByteOrder.{ByteOrder}
 use Rattle.wkb_fields.specs.declared.ByteOrder.TheVariants.{Big, Little}
 use Rattle.wkb_fields.specs.Fields.{little_end, number_in, field_of, little_bytes, bytes_in}
 
-drop-one : (l : List ℕ) (at next : ℕ) → next ≡ at + 1 → at < length l → drop at l ≡ get_or l at 0 ∷ drop next l
-drop-one l at next e h =
+drop_one : (l : List ℕ) (at next : ℕ) → next ≡ at + 1 → at < length l → drop at l ≡ get_or l at 0 ∷ drop next l
+drop_one l at next e h =
     let s : suc at ≡ next = omega arith in drop-cons l at 0 h ∙ ap (λ (n : ℕ). get_or l at 0 ∷ drop n l) s
 
 -- the four bytes at a place
@@ -21,10 +21,10 @@ pub four : (l : List ℕ) (at : ℕ) → at + 4 ≤ length l
     → take 4 (drop at l) ≡ get_or l at 0 ∷ get_or l (at + 1) 0 ∷ get_or l (at + 2) 0 ∷ get_or l (at + 3) 0 ∷ []
 four l at h =
     rw (
-      drop-one l at (at + 1) refl (omega arith),
-      drop-one l (at + 1) (at + 2) (omega arith) (omega arith),
-      drop-one l (at + 2) (at + 3) (omega arith) (omega arith),
-      drop-one l (at + 3) (at + 4) (omega arith) (omega arith),
+      drop_one l at (at + 1) refl (omega arith),
+      drop_one l (at + 1) (at + 2) (omega arith) (omega arith),
+      drop_one l (at + 2) (at + 3) (omega arith) (omega arith),
+      drop_one l (at + 3) (at + 4) (omega arith) (omega arith),
     )
 
 eight : (l : List ℕ) (at : ℕ) → take 8 (drop at l) ≡ take 4 (drop at l) ++ take 4 (drop (at + 4) l)
@@ -82,10 +82,10 @@ unfolding little_bytes
 little_length zero n = refl
 little_length (suc w) n = ap suc (little_length w (n / 256))
 
-pub bytes-length : (order : ByteOrder) (w n : ℕ) → length (bytes_in order w n) ≡ w
+pub bytes_length : (order : ByteOrder) (w n : ℕ) → length (bytes_in order w n) ≡ w
 unfolding bytes_in
-bytes-length Little w n = little_length w n
-bytes-length Big w n = length-reverse (little_bytes w n) ∙ little_length w n
+bytes_length Little w n = little_length w n
+bytes_length Big w n = length-reverse (little_bytes w n) ∙ little_length w n
 
 little_back : (w n : ℕ) → n < 256 ^ w → little_end (little_bytes w n) ≡ n
 unfolding little_end little_bytes
@@ -104,4 +104,4 @@ pub field_back : (order : ByteOrder) (w n : ℕ) (before after : List ℕ) (at :
     → field_of order w (before ++ (bytes_in order w n ++ after)) at ≡ n
 unfolding field_of
 field_back order w n before after at h e =
-    rw (drop_at before (bytes_in order w n ++ after) at e, take_at (bytes_in order w n) after w (bytes-length order w n)) (number_back order w n h)
+    rw (drop_at before (bytes_in order w n ++ after) at e, take_at (bytes_in order w n) after w (bytes_length order w n)) (number_back order w n h)

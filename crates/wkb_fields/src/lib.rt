@@ -1,4 +1,6 @@
 // The fields of well-known binary (OGC 06-103r4, clause 8): whole numbers of 32 bits and doubles, out of bytes of either order.
+#![tactic(auto)]
+
 ghost use Rattle.std.specs.Prelude.{◌≡◌, [], ◌∷◌, ◌+◌, ◌*◌, ◌≤◌, length};
 ghost use Rattle.std.specs.Float.{binary64};
 ghost use Rattle.std.specs.Float.Ieee.{of_bits};

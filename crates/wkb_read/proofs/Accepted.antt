@@ -22,7 +22,7 @@ use Rattle.rings.proofs.Checks.{both}
 use Rattle.room.specs.Room.{pad}
 use Rattle.outline_check.specs.Outline.{rings, size_at, start_of, ring_of}
 use Rattle.outline_check.specs.Rules.{enough as enoughAt, not_over as notOverAt, shut as shutAt, add_up, sound_scale, for_each, shape_checked, shape_with}
-use Rattle.outline_check.proofs.Rules.{each_all, each-lowest}
+use Rattle.outline_check.proofs.Rules.{each_all, each_lowest}
 use Rattle.outline_check.proofs.Starts.{start_none}
 use Rattle.outline_record.specs.Made.{pad_z}
 use Rattle.wkb_fields.specs.declared.ByteOrder.{ByteOrder}
@@ -36,8 +36,8 @@ use Rattle.wkb_read.specs.declared.ReadWkb.TheVariants.{Read, Unread}
 use Rattle.wkb_read.specs.Stored.{storable, all_storable, ring_coords, coords_of, sizes_of}
 use Rattle.wkb_read.specs.Judged.{fault_at, each_ring, enough, not_over, shut, judged}
 use Rattle.wkb_read.specs.Read.{Outcome, stored, after_judged, after_whole, wkb_read}
-use Rattle.wkb_read.proofs.Walk.{storable-fits}
-use Rattle.wkb_read.proofs.Put.{ring-numbers, sizes_length}
+use Rattle.wkb_read.proofs.Walk.{storable_fits}
+use Rattle.wkb_read.proofs.Put.{ring_numbers, sizes_length}
 use Rattle.wkb_read.proofs.Rules.{passed}
 
 -- Definitions
@@ -90,33 +90,33 @@ fault_none ok (r ∷ rs) h = rw (h 0 (omega arith)) (ap suc (fault_none ok rs (�
 
 -- A shape's rings, as they stand in the sizes and the numbers
 
-size-at : (shape : Shape) (k : ℕ) → size_at (sizes_of shape) k ≡ length (get_or shape k [])
+size_at_lem : (shape : Shape) (k : ℕ) → size_at (sizes_of shape) k ≡ length (get_or shape k [])
 unfolding sizes_of
-size-at [] k = refl
-size-at (r ∷ rs) zero = refl
-size-at (r ∷ rs) (suc k) = size-at rs k
+size_at_lem [] k = refl
+size_at_lem (r ∷ rs) zero = refl
+size_at_lem (r ∷ rs) (suc k) = size_at_lem rs k
 
-start-cons : (n : ℕ) (sizes : List ℕ) (k : ℕ) → start_of (n ∷ sizes) (suc k) ≡ n + start_of sizes k
+start_cons : (n : ℕ) (sizes : List ℕ) (k : ℕ) → start_of (n ∷ sizes) (suc k) ≡ n + start_of sizes k
 unfolding start_of
-start-cons n sizes zero = omega arith
-start-cons n sizes (suc k) = ap (λ (m : ℕ). m + size_at sizes k) (start-cons n sizes k) ∙ omega arith
+start_cons n sizes zero = omega arith
+start_cons n sizes (suc k) = ap (λ (m : ℕ). m + size_at sizes k) (start_cons n sizes k) ∙ omega arith
 
 coords_length : (scale : Float) (shape : Shape) → length (coords_of scale shape) ≡ 2 * start_of (sizes_of shape) (length shape)
 unfolding coords_of sizes_of
 coords_length scale [] = omega (arith, start_none [])
 coords_length scale (r ∷ rs) =
-    omega (arith, length-append (ring_coords scale r) (coords_of scale rs), ring-numbers scale r, coords_length scale rs, start-cons (length r) (sizes_of rs) (length rs))
+    omega (arith, length-append (ring_coords scale r) (coords_of scale rs), ring_numbers scale r, coords_length scale rs, start_cons (length r) (sizes_of rs) (length rs))
 
-ring-at : (scale : Float) (shape : Shape) (k : ℕ) → k < length shape → ring_of (sizes_of shape) (coords_of scale shape) k ≡ ring_coords scale (get_or shape k [])
+ring_at_lem : (scale : Float) (shape : Shape) (k : ℕ) → k < length shape → ring_of (sizes_of shape) (coords_of scale shape) k ≡ ring_coords scale (get_or shape k [])
 unfolding ring_of coords_of sizes_of
-ring-at scale [] k h = absurd (omega arith)
-ring-at scale (r ∷ rs) zero h =
+ring_at_lem scale [] k h = absurd (omega arith)
+ring_at_lem scale (r ∷ rs) zero h =
     let none : 2 * start_of (length r ∷ sizes_of rs) 0 ≡ 0 = omega (arith, start_none (length r ∷ sizes_of rs)) in
-    rw none (take_at (ring_coords scale r) (coords_of scale rs) (2 * length r) (ring-numbers scale r))
-ring-at scale (r ∷ rs) (suc k) h =
+    rw none (take_at (ring_coords scale r) (coords_of scale rs) (2 * length r) (ring_numbers scale r))
+ring_at_lem scale (r ∷ rs) (suc k) h =
     let e : 2 * start_of (length r ∷ sizes_of rs) (suc k) ≡ length (ring_coords scale r) + 2 * start_of (sizes_of rs) k =
-    omega (arith, start-cons (length r) (sizes_of rs) k, ring-numbers scale r) in
-    rw (e, drop-append-add (ring_coords scale r) (coords_of scale rs) (2 * start_of (sizes_of rs) k)) (ring-at scale rs k (omega arith))
+    omega (arith, start_cons (length r) (sizes_of rs) k, ring_numbers scale r) in
+    rw (e, drop-append-add (ring_coords scale r) (coords_of scale rs) (2 * start_of (sizes_of rs) k)) (ring_at_lem scale rs k (omega arith))
 
 -- rule 3 cannot be broken: the sizes are those of the rings that were read
 adds_up : (scale : Float) (shape : Shape) → add_up (sizes_of shape) (coords_of scale shape) ≡ true
@@ -127,9 +127,9 @@ ring_i32s : (scale : Float) (ps : Ring) (behind : List ℤ) → all_storable sca
 unfolding all_storable ring_coords
 ring_i32s scale [] behind s nums i h = nums i h
 ring_i32s scale ((x, y) ∷ ps) behind s nums zero h =
-    (storable-fits scale x (both (storable scale x) (storable scale y) (both (storable scale x && storable scale y) (all_storable scale ps) s).0).0).sfits
+    (storable_fits scale x (both (storable scale x) (storable scale y) (both (storable scale x && storable scale y) (all_storable scale ps) s).0).0).sfits
 ring_i32s scale ((x, y) ∷ ps) behind s nums (suc zero) h =
-    (storable-fits scale y (both (storable scale x) (storable scale y) (both (storable scale x && storable scale y) (all_storable scale ps) s).0).1).sfits
+    (storable_fits scale y (both (storable scale x) (storable scale y) (both (storable scale x && storable scale y) (all_storable scale ps) s).0).1).sfits
 ring_i32s scale ((x, y) ∷ ps) behind s nums (suc (suc i)) h =
     ring_i32s scale ps behind (both (storable scale x && storable scale y) (all_storable scale ps) s).1 nums i (omega arith)
 
@@ -140,22 +140,22 @@ coords_i32s scale (r ∷ rs) kept = ring_i32s scale r (coords_of scale rs) (kept
 
 -- The reader's rules beside 01's
 
-told-holding : (t t' : Bool) (why : Refusal) (later : Judged) (later' : Checked) → t ≡ t' → later ≡ told later'
+told_holding : (t t' : Bool) (why : Refusal) (later : Judged) (later' : Checked) → t ≡ t' → later ≡ told later'
     → cond t later (Faulty (Plain why)) ≡ told (holding t' why later')
 unfolding told
-told-holding t true why later later' e l = rw (e, l)
-told-holding t false why later later' e l = rw e
+told_holding t true why later later' e l = rw (e, l)
+told_holding t false why later later' e l = rw e
 
-told-each : (ok : Ring → Bool) (ok' : ℕ → Bool) (why : ℕ → Refusal) (shape : Shape) (n : ℕ) (later : Judged) (later' : Checked) → n ≡ length shape
+told_each : (ok : Ring → Bool) (ok' : ℕ → Bool) (why : ℕ → Refusal) (shape : Shape) (n : ℕ) (later : Judged) (later' : Checked) → n ≡ length shape
     → ((k : ℕ) → k < n → ok' k ≡ ok (get_or shape k [])) → later ≡ told later' → each_ring ok (λ k. Plain (why k)) shape later ≡ told (for_each ok' why n later')
 unfolding each_ring told
-told-each ok ok' why shape n later later' e same l = by_test (ltb (fault_at ok shape) (length shape)) refl
+told_each ok ok' why shape n later later' e same l = by_test (ltb (fault_at ok shape) (length shape)) refl
   where
     by_test : (b : Bool) → ltb (fault_at ok shape) (length shape) ≡ b
         → cond b (Faulty (Plain (why (fault_at ok shape)))) later ≡ told (for_each ok' why n later')
     by_test true t =
         let h = ltb-true (fault_at ok shape) (length shape) t in
-        ap told (sym (each-lowest ok' why n later' (fault_at ok shape) (omega arith) (same _ (omega arith) ∙ fault_there ok shape h)
+        ap told (sym (each_lowest ok' why n later' (fault_at ok shape) (omega arith) (same _ (omega arith) ∙ fault_there ok shape h)
         (λ i b. same i (omega arith) ∙ fault_below ok shape i b)))
     by_test false t =
         let h = ltb-false (fault_at ok shape) (length shape) t in
@@ -179,14 +179,14 @@ judged_checked scale shape kept =
     let sizes = sizes_of shape in
     let coords = coords_of scale shape in
     let n : rings sizes ≡ length shape = sizes_length shape in
-    told-holding _ _ (TooFew 0) _ _ (ap (λ (m : ℕ). not (ltb m 1)) (sym n))
-    (told-each enough (enoughAt sizes) TooFew shape (rings sizes) _ _ n (λ k h. ap (λ (m : ℕ). not (ltb m 2)) (size-at shape k))
-    (told-holding _ _ (TooMany 64) _ _ (ap (λ (m : ℕ). not (ltb 64 m)) (sym n))
-    (told-each not_over (notOverAt sizes) TooMany shape (rings sizes) _ _ n (λ k h. ap (λ (m : ℕ). not (ltb 4097 m)) (size-at shape k))
+    told_holding _ _ (TooFew 0) _ _ (ap (λ (m : ℕ). not (ltb m 1)) (sym n))
+    (told_each enough (enoughAt sizes) TooFew shape (rings sizes) _ _ n (λ k h. ap (λ (m : ℕ). not (ltb m 2)) (size_at_lem shape k))
+    (told_holding _ _ (TooMany 64) _ _ (ap (λ (m : ℕ). not (ltb 64 m)) (sym n))
+    (told_each not_over (notOverAt sizes) TooMany shape (rings sizes) _ _ n (λ k h. ap (λ (m : ℕ). not (ltb 4097 m)) (size_at_lem shape k))
     (each_passes (all_storable scale) _ shape _ kept
-    ∙ told-holding true (true && add_up sizes coords) SizesDiffer _ _ (sym (adds_up scale shape))
-    (told-each (shut scale) (shutAt sizes coords) NotClosed shape (rings sizes) _ _ n
-    (λ k h. ap₂ closed (ring-at scale shape k (omega arith)) (size-at shape k)) refl)))))
+    ∙ told_holding true (true && add_up sizes coords) SizesDiffer _ _ (sym (adds_up scale shape))
+    (told_each (shut scale) (shutAt sizes coords) NotClosed shape (rings sizes) _ _ n
+    (λ k h. ap₂ closed (ring_at_lem scale shape k (omega arith)) (size_at_lem shape k)) refl)))))
 
 -- and a shape with nothing at fault can be stored
 fine_storable : (scale : Float) (shape : Shape) → judged scale shape ≡ Fine → Storable scale shape
@@ -221,8 +221,8 @@ front_z n xs = take_at xs _ (length xs) refl
 
 module _ (sizes : List ℕ) (coords : List ℤ) (scale : Float) (r m : ℕ) (s : List ℕ) (c : List ℤ) where
   -- a refusal is no success
-  refused-not : (why : WkbRefusal) (a : List ℕ) (b : List ℤ) → ◌≡◌ {A = Outcome} (Unread why, a, b) (Read r m, s, c) → Accepted scale r m s c
-  refused-not why a b e = let no : ◌≡◌ {A = ℕ} 0 1 = ap (λ (o : Outcome). times_read o.0) e in absurd (omega arith)
+  refused_not : (why : WkbRefusal) (a : List ℕ) (b : List ℤ) → ◌≡◌ {A = Outcome} (Unread why, a, b) (Read r m, s, c) → Accepted scale r m s c
+  refused_not why a b e = let no : ◌≡◌ {A = ℕ} 0 1 = ap (λ (o : Outcome). times_read o.0) e in absurd (omega arith)
 
   stored_accepted : (shape : Shape) → sound_scale scale ≡ true → judged scale shape ≡ Fine → stored sizes coords scale shape ≡ (Read r m, s, c) → Accepted scale r m s c
   unfolding stored
@@ -250,17 +250,17 @@ module _ (sizes : List ℕ) (coords : List ℤ) (scale : Float) (r m : ℕ) (s :
             checked = ap₂ shape_checked fs fc ∙ good;
             scaled = sound;
           }
-      by_test false e = refused-not _ _ _ e
+      by_test false e = refused_not _ _ _ e
 
   judged_accepted : (shape : Shape) (j : Judged) → sound_scale scale ≡ true → judged scale shape ≡ j → after_judged sizes coords scale shape j ≡ (Read r m, s, c) → Accepted scale r m s c
   unfolding after_judged
   judged_accepted shape Fine sound j e = stored_accepted shape sound j e
-  judged_accepted shape (Faulty why) sound j e = refused-not why sizes coords e
+  judged_accepted shape (Faulty why) sound j e = refused_not why sizes coords e
 
   whole_accepted : (g : Got (ByteOrder × Shape)) → sound_scale scale ≡ true → after_whole sizes coords scale g ≡ (Read r m, s, c) → Accepted scale r m s c
   unfolding after_whole
   whole_accepted (got (order, shape) end) sound e = judged_accepted shape (judged scale shape) sound refl e
-  whole_accepted (stop why) sound e = refused-not why sizes coords e
+  whole_accepted (stop why) sound e = refused_not why sizes coords e
 
   -- For any bytes, any scale and any rooms: where reading answers r rings and m numbers, the first r sizes and the first m numbers that it leaves are an
   -- outline of i32 that passes 01's rules 1 to 4, and the scale passes rule 5. So what 01 demands of an outline that passes holds of the one that was read:
@@ -272,4 +272,4 @@ module _ (sizes : List ℕ) (coords : List ℤ) (scale : Float) (r m : ℕ) (s :
       by_test : (b : Bool) → sound_scale scale ≡ b → cond b (after_whole sizes coords scale (whole bytes)) (Unread (Plain BadScale), sizes, coords) ≡ (Read r m, s, c)
           → Accepted scale r m s c
       by_test true sound e = whole_accepted (whole bytes) sound e
-      by_test false sound e = refused-not (Plain BadScale) sizes coords e
+      by_test false sound e = refused_not (Plain BadScale) sizes coords e

@@ -10,21 +10,21 @@ use lib.IntN.{ℤ}
 use lib.Ieee.{Float}
 use Rattle.rings.proofs.Checks.{both}
 use Rattle.room.specs.Room.{write}
-use Rattle.room.proofs.Write.{write-length, write-append}
+use Rattle.room.proofs.Write.{write_length, write_append}
 use Rattle.wkb_fields.specs.declared.ByteOrder.{ByteOrder}
 use Rattle.wkb_fields.specs.Fields.{field_of}
 use Rattle.wkb_shape.specs.declared.Walked.TheVariants.{Past}
 use Rattle.wkb_shape.specs.Wkb.{Ring, Shape, rings}
 use Rattle.wkb_shape.specs.Inner.Laid.{end_of, points_of, count_of, next_of, rings_of, Whole}
-use Rattle.wkb_shape.proofs.Laid.{begun, points-length, rings-length}
+use Rattle.wkb_shape.proofs.Laid.{begun, points_length, rings_length}
 use Rattle.wkb_read.specs.Stored.{stored_of, storable, all_storable, ring_coords, coords_of, sizes_of}
 use Rattle.wkb_read.specs.Judged.{fault_at}
-use Rattle.wkb_read.proofs.Walk.{Along, along, along_on, rings_here, rings-none}
+use Rattle.wkb_read.proofs.Walk.{Along, along, along_on, rings_here, rings_none}
 
-pub ring-numbers : (scale : Float) (ps : Ring) → length (ring_coords scale ps) ≡ 2 * length ps
+pub ring_numbers : (scale : Float) (ps : Ring) → length (ring_coords scale ps) ≡ 2 * length ps
 unfolding ring_coords
-ring-numbers scale [] = refl
-ring-numbers scale ((x, y) ∷ ps) = ap (λ (n : ℕ). suc (suc n)) (ring-numbers scale ps) ∙ omega arith
+ring_numbers scale [] = refl
+ring_numbers scale ((x, y) ∷ ps) = ap (λ (n : ℕ). suc (suc n)) (ring_numbers scale ps) ∙ omega arith
 
 module _ (bytes : List ℕ) (order : ByteOrder) (scale : Float) where
   points_here : (n at i : ℕ) → i < n → points_of bytes order (n - i) at ≡ (field_of order 8 bytes at, field_of order 8 bytes (at + 8)) ∷ points_of bytes order (n - (i + 1)) (at + 16)
@@ -138,8 +138,8 @@ module _ (bytes : List ℕ) (order : ByteOrder) (scale : Float) where
         arith,
         numbers_of n (next_of bytes order at) q b.later,
         length-append (ring_coords scale r) (coords_of scale rs),
-        ring-numbers scale r,
-        points-length bytes order (count_of bytes order at) (at + 4),
+        ring_numbers scale r,
+        points_length bytes order (count_of bytes order at) (at + 4),
         next_is at,
       )
 
@@ -184,7 +184,7 @@ module _ (bytes : List ℕ) (order : ByteOrder) (scale : Float) where
         ap (λ (rs : Shape). length (coords_of scale rs)) here
         ∙ length-append (ring_coords scale r) (coords_of scale (rings_of bytes order (n - (k + 1)) (next_of bytes order at)))
         ∙ ap (λ (m : ℕ). m + length (coords_of scale (rings_of bytes order (n - (k + 1)) (next_of bytes order at))))
-        (ring-numbers scale r ∙ ap (λ (m : ℕ). 2 * m) (points-length bytes order (count_of bytes order at) (at + 4)))
+        (ring_numbers scale r ∙ ap (λ (m : ℕ). 2 * m) (points_length bytes order (count_of bytes order at) (at + 4)))
 
     pub ring_room : c + 2 * count_of bytes order at ≤ length coords
     ring_room = omega (arith, numbers_here, s.room)
@@ -195,15 +195,15 @@ module _ (bytes : List ℕ) (order : ByteOrder) (scale : Float) where
     laying_on next e =
         let r = points_of bytes order (count_of bytes order at) (at + 4) in
         let rs = rings_of bytes order (n - (k + 1)) (next_of bytes order at) in
-        let long = ap length e ∙ write-length coords c (ring_coords scale r) in
-        let many = ring-numbers scale r ∙ ap (λ (m : ℕ). 2 * m) (points-length bytes order (count_of bytes order at) (at + 4)) in
+        let long = ap length e ∙ write_length coords c (ring_coords scale r) in
+        let many = ring_numbers scale r ∙ ap (λ (m : ℕ). 2 * m) (points_length bytes order (count_of bytes order at) (at + 4)) in
         record {
           on = along_on bytes order n at k s.on h;
           room = omega (arith, numbers_here, s.room, long);
           long = long ∙ s.long;
           ok = oks_here.1;
           same = ap₂ (λ (l : List ℤ) (m : ℕ). write l (c + m) (coords_of scale rs)) e (sym many)
-              ∙ write-append coords c (ring_coords scale r) (coords_of scale rs)
+              ∙ write_append coords c (ring_coords scale r) (coords_of scale rs)
               ∙ sym (ap (λ (all : Shape). write coords c (coords_of scale all)) here)
               ∙ s.same;
         }
@@ -211,7 +211,7 @@ module _ (bytes : List ℕ) (order : ByteOrder) (scale : Float) where
   pub laying_done : (n : ℕ) (coords₀ : List ℤ) (at c k : ℕ) (coords : List ℤ) → Laying n coords₀ at c k coords → n ≤ k
       → coords ≡ write coords₀ 0 (coords_of scale (rings_of bytes order n 9))
   unfolding write coords_of
-  laying_done n coords₀ at c k coords s h = sym (ap (λ (all : Shape). write coords c (coords_of scale all)) (rings-none bytes order n at k h)) ∙ s.same
+  laying_done n coords₀ at c k coords s h = sym (ap (λ (all : Shape). write coords c (coords_of scale all)) (rings_none bytes order n at k h)) ∙ s.same
 
 -- all rings' sizes
 pub sizes_length : (rs : Shape) → length (sizes_of rs) ≡ length rs
@@ -221,7 +221,7 @@ sizes_length (r ∷ rs) = ap suc (sizes_length rs)
 
 module _ (bytes : List ℕ) (order : ByteOrder) where
   pub sizes_count : (n : ℕ) → length (sizes_of (rings_of bytes order n 9)) ≡ n
-  sizes_count n = sizes_length (rings_of bytes order n 9) ∙ rings-length bytes order n 9
+  sizes_count n = sizes_length (rings_of bytes order n 9) ∙ rings_length bytes order n 9
 
   pub record Sizing (n : ℕ) (sizes₀ : List ℕ) (at k : ℕ) (sizes : List ℕ) : Type 0 where
     pub on : Along bytes order n at k
@@ -242,11 +242,11 @@ module _ (bytes : List ℕ) (order : ByteOrder) where
         room = rw length-set s.room;
         long = length-set sizes k (count_of bytes order at) ∙ s.long;
         same = sym (ap (λ (all : Shape). write sizes k (sizes_of all)) (rings_here bytes order n at k s.on h)
-            ∙ ap (λ (m : ℕ). write (set sizes k m) (k + 1) (sizes_of rs)) (points-length bytes order (count_of bytes order at) (at + 4)))
+            ∙ ap (λ (m : ℕ). write (set sizes k m) (k + 1) (sizes_of rs)) (points_length bytes order (count_of bytes order at) (at + 4)))
             ∙ s.same;
       }
 
   pub sizing_done : (n : ℕ) (sizes₀ : List ℕ) (at k : ℕ) (sizes : List ℕ) → Sizing n sizes₀ at k sizes → n ≤ k
       → sizes ≡ write sizes₀ 0 (sizes_of (rings_of bytes order n 9))
   unfolding write sizes_of
-  sizing_done n sizes₀ at k sizes s h = sym (ap (λ (all : Shape). write sizes k (sizes_of all)) (rings-none bytes order n at k h)) ∙ s.same
+  sizing_done n sizes₀ at k sizes s h = sym (ap (λ (all : Shape). write sizes k (sizes_of all)) (rings_none bytes order n at k h)) ∙ s.same

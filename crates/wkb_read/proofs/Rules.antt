@@ -13,7 +13,7 @@ use lib.IntN.{ℤ, pos}
 use lib.Ieee.{Float}
 use Rattle.answers.specs.declared.Refusal.TheVariants.{NoRoom, BadScale}
 use Rattle.room.specs.Room.{pad, write}
-use Rattle.room.proofs.Write.{write_eq, write-length}
+use Rattle.room.proofs.Write.{write_eq, write_length}
 use Rattle.room.proofs.Cases.{lt_or}
 use Rattle.outline_check.specs.Rules.{sound_scale}
 use Rattle.outline_record.specs.Made.{pad_z}
@@ -23,7 +23,7 @@ use Rattle.wkb_shape.specs.declared.WkbRefusal.{WkbRefusal}
 use Rattle.wkb_shape.specs.declared.WkbRefusal.TheVariants.{Plain}
 use Rattle.wkb_shape.specs.Wkb.{Ring, Shape, whole}
 use Rattle.wkb_shape.specs.Inner.Laid.{shape_told, rings_of, Whole}
-use Rattle.wkb_shape.proofs.Laid.{rings-length}
+use Rattle.wkb_shape.proofs.Laid.{rings_length}
 use Rattle.wkb_shape.proofs.Begins.{shape_laid, unshaped}
 use Rattle.wkb_read.specs.declared.Judged.{Judged}
 use Rattle.wkb_read.specs.declared.Judged.TheVariants.{Fine, Faulty}
@@ -47,10 +47,10 @@ held : (t : Bool) (why : WkbRefusal) (later : Judged) → cond t later (Faulty w
 held true why later e = (refl, e)
 held false why later e = (cc, cc)
 
-each-held : (ok : Ring → Bool) (why : ℕ → WkbRefusal) (shape : Shape) (later : Judged) → each_ring ok why shape later ≡ Fine
+each_held : (ok : Ring → Bool) (why : ℕ → WkbRefusal) (shape : Shape) (later : Judged) → each_ring ok why shape later ≡ Fine
     → (fault_at ok shape ≡ length shape) × (later ≡ Fine)
 unfolding each_ring
-each-held ok why shape later e = by_test (ltb (fault_at ok shape) (length shape)) refl e
+each_held ok why shape later e = by_test (ltb (fault_at ok shape) (length shape)) refl e
   where
     by_test : (b : Bool) → ltb (fault_at ok shape) (length shape) ≡ b → cond b (Faulty (why (fault_at ok shape))) later ≡ Fine
         → (fault_at ok shape ≡ length shape) × (later ≡ Fine)
@@ -70,11 +70,11 @@ pub passed : (scale : Float) (shape : Shape) → judged scale shape ≡ Fine →
 unfolding judged
 passed scale shape e =
     let one = held (not (ltb (length shape) 1)) _ _ e in
-    let few = each-held enough _ shape _ one.1 in
+    let few = each_held enough _ shape _ one.1 in
     let two = held (not (ltb 64 (length shape))) _ _ few.1 in
-    let many = each-held not_over _ shape _ two.1 in
-    let kept = each-held (all_storable scale) _ shape _ many.1 in
-    let shuts = each-held (shut scale) _ shape _ kept.1 in
+    let many = each_held not_over _ shape _ two.1 in
+    let kept = each_held (all_storable scale) _ shape _ many.1 in
+    let shuts = each_held (shut scale) _ shape _ kept.1 in
     record {
       some = ltb-false (length shape) 1 (not-true _ one.0);
       most = ltb-false 64 (length shape) (not-true _ two.0);
@@ -103,10 +103,10 @@ module _ (sizes : List ℕ) (coords : List ℤ) (scale : Float) (shape : Shape) 
   unfolding stored
   stored_short t = rw (fits_test ∙ ap not t)
 
-  pub stored-fits : (ltb (length sizes) n || ltb (length coords) m) ≡ false
+  pub stored_fits : (ltb (length sizes) n || ltb (length coords) m) ≡ false
       → stored sizes coords scale shape ≡ (Read n m, pad (length sizes) (sizes_of shape), pad_z (length coords) (coords_of scale shape))
   unfolding stored
-  stored-fits t = rw (fits_test ∙ ap not t, en, em)
+  stored_fits t = rw (fits_test ∙ ap not t, en, em)
 
 or-false : (a b : Bool) → (a || b) ≡ false → (a ≡ false) × (b ≡ false)
 or-false true b e = (cc, cc)
@@ -119,7 +119,7 @@ rooms_fit a n b m e = let p = or-false (ltb a n) (ltb b m) e in (ltb-false a n p
 pub written_padded : (room mid xs : List ℕ) (n : ℕ) → mid ≡ write room 0 xs → length xs ≡ n → n ≤ length room → pad (length mid) (take n mid) ≡ pad (length room) xs
 written_padded room mid xs n w e h =
     ap (λ (m : List ℕ). pad (length m) (take n m)) w
-    ∙ ap (λ (k : ℕ). pad k (take n (write room 0 xs))) (write-length room 0 xs)
+    ∙ ap (λ (k : ℕ). pad k (take n (write room 0 xs))) (write_length room 0 xs)
     ∙ ap (pad (length room)) (ap (take n) (write_eq room 0 xs (omega arith)) ∙ take_at xs (drop (0 + length xs) room) n e)
 
 -- the numbers that bytes call for, from how many bytes there are
@@ -153,4 +153,4 @@ module _ (sizes : List ℕ) (coords : List ℤ) (scale : Float) (bytes : List �
 
     -- what storing asks
     pub read_kept : judged scale (rings_of bytes order n 9) ≡ Fine → Whole bytes order n × (fault_at (all_storable scale) (rings_of bytes order n 9) ≡ n)
-    read_kept j = ((shape_laid bytes order n s).ends, (passed scale (rings_of bytes order n 9) j).kept ∙ rings-length bytes order n 9)
+    read_kept j = ((shape_laid bytes order n s).ends, (passed scale (rings_of bytes order n 9) j).kept ∙ rings_length bytes order n 9)

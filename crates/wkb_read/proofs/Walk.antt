@@ -21,7 +21,7 @@ use Rattle.wkb_fields.specs.Fields.{field_of}
 use Rattle.wkb_shape.specs.declared.Walked.TheVariants.{Past}
 use Rattle.wkb_shape.specs.Wkb.{Ring, Shape, rings}
 use Rattle.wkb_shape.specs.Inner.Laid.{end_of, points_of, count_of, next_of, rings_of, Whole}
-use Rattle.wkb_shape.proofs.Laid.{Begun, begun, points-length}
+use Rattle.wkb_shape.proofs.Laid.{Begun, begun, points_length}
 use Rattle.wkb_read.specs.Stored.{scaled_of, stored_of, storable, ring_coords}
 use Rattle.wkb_read.specs.Judged.{fault_at, enough, not_over, shut}
 
@@ -57,9 +57,9 @@ module _ (bytes : List ℕ) (order : ByteOrder) where
     unfolding rings_of
     rings_here = rw one_more
 
-  pub rings-none : (n at k : ℕ) → n ≤ k → rings_of bytes order (n - k) at ≡ []
+  pub rings_none : (n at k : ℕ) → n ≤ k → rings_of bytes order (n - k) at ≡ []
   unfolding rings_of
-  rings-none n at k h = let e : n - k ≡ 0 = omega arith in rw e
+  rings_none n at k h = let e : n - k ≡ 0 = omega arith in rw e
 
   -- a rule over the rings: from ring k on it finds what it finds from the first
   module _ (ok : Ring → Bool) where
@@ -92,22 +92,22 @@ module _ (bytes : List ℕ) (order : ByteOrder) where
     pub go_done : (n at k : ℕ) → Going n at k → n ≤ k → n ≡ fault_at ok (rings_of bytes order n 9)
     unfolding fault_at
     go_done n at k i h =
-        let e = sym (ap (λ (rs : Shape). k + fault_at ok rs) (rings-none n at k h)) ∙ i.same in
+        let e = sym (ap (λ (rs : Shape). k + fault_at ok rs) (rings_none n at k h)) ∙ i.same in
         let w = i.on.within in omega (arith, e)
 
 -- the rules on a ring's count, of the points that stand at a place
 module _ (bytes : List ℕ) (order : ByteOrder) (n at : ℕ) where
   pub few_ok : 2 ≤ n → enough (points_of bytes order n at) ≡ true
-  few_ok h = rw (points-length bytes order n at, le-ltb n 2 h)
+  few_ok h = rw (points_length bytes order n at, le-ltb n 2 h)
 
-  pub few-not : n < 2 → enough (points_of bytes order n at) ≡ false
-  few-not h = rw (points-length bytes order n at, lt-ltb n 2 h)
+  pub few_not : n < 2 → enough (points_of bytes order n at) ≡ false
+  few_not h = rw (points_length bytes order n at, lt-ltb n 2 h)
 
   pub many_ok : n ≤ 4097 → not_over (points_of bytes order n at) ≡ true
-  many_ok h = rw (points-length bytes order n at, le-ltb 4097 n h)
+  many_ok h = rw (points_length bytes order n at, le-ltb 4097 n h)
 
   pub many_not : 4097 < n → not_over (points_of bytes order n at) ≡ false
-  many_not h = rw (points-length bytes order n at, lt-ltb 4097 n h)
+  many_not h = rw (points_length bytes order n at, lt-ltb 4097 n h)
 
 -- rule 4 on the points that stand at a place
 module _ (bytes : List ℕ) (order : ByteOrder) (scale : Float) where
@@ -129,23 +129,23 @@ module _ (bytes : List ℕ) (order : ByteOrder) (scale : Float) where
   unfolding points_of ring_coords
   shut_none n at h = let e : n ≡ 0 = omega arith in rw e
 
-  pub shut-some : (n at : ℕ) → 1 ≤ n
+  pub shut_some : (n at : ℕ) → 1 ≤ n
       → shut scale (points_of bytes order n at)
       ≡ eq_z (stored_of scale (field_of order 8 bytes at)) (stored_of scale (field_of order 8 bytes (at + 16 * (n - 1))))
       && eq_z (stored_of scale (field_of order 8 bytes (at + 8))) (stored_of scale (field_of order 8 bytes (at + 16 * (n - 1) + 8)))
-  shut-some n at h =
+  shut_some n at h =
       let a = points_get n at 0 (omega arith) in
       let z = points_get n at (n - 1) (omega arith) in
       let e : at + 0 ≡ at = omega arith in
-      rw (points-length bytes order n at, a.0, a.1, z.0, z.1, e)
+      rw (points_length bytes order n at, a.0, a.1, z.0, z.1, e)
 
 -- what can be stored is an i32
 in_i32 : (z : ℤ) → le_z (first 31) z ≡ true → le_z z (last 31) ≡ true → mag z < 2147483648
 in_i32 (pos n) a b = omega (arith, leb-true n 2147483647 b)
 in_i32 (negsuc n) a b = omega (arith, leb-true n 2147483647 a)
 
-pub storable-fits : (scale : Float) (n : ℕ) → storable scale n ≡ true → SFits w32 (stored_of scale n)
-storable-fits scale n e =
+pub storable_fits : (scale : Float) (n : ℕ) → storable scale n ≡ true → SFits w32 (stored_of scale n)
+storable_fits scale n e =
     let k = stored_of scale n in
     let outer = both (finite (scaled_of scale n) && le_z (first 31) k) (le_z k (last 31)) e in
     let inner = both (finite (scaled_of scale n)) (le_z (first 31) k) outer.0 in record { sfits = in_i32 k inner.1 outer.1 }

@@ -30,13 +30,13 @@ abbrev pub Doubles : Shape → Type 0
 Doubles shape = (k : ℕ) → k < length shape → HeldPoints (get_or shape k [])
 
 -- a shape within the limits has counts that fit their fields by far
-held-rings : (shape : Shape) → Doubles shape → ((k : ℕ) → k < length shape → length (get_or shape k []) ≤ 4097) → HeldRings shape
+held_rings : (shape : Shape) → Doubles shape → ((k : ℕ) → k < length shape → length (get_or shape k []) ≤ 4097) → HeldRings shape
 unfolding HeldRings
-held-rings [] d h = tt
-held-rings (r ∷ rs) d h =
+held_rings [] d h = tt
+held_rings (r ∷ rs) d h =
     let most : length r ≤ 4097 = h 0 (omega arith) in
     let field : 256 ^ 4 ≡ 4294967296 = refl in
-    (omega arith, d 0 (omega arith), held-rings rs (λ k l. d (suc k) (omega arith)) (λ k l. h (suc k) (omega arith)))
+    (omega arith, d 0 (omega arith), held_rings rs (λ k l. d (suc k) (omega arith)) (λ k l. h (suc k) (omega arith)))
 
 held : (scale : Float) (shape : Shape) → Doubles shape → judged scale shape ≡ Fine → Held shape
 held scale shape d j =
@@ -44,7 +44,7 @@ held scale shape d j =
     let field : 256 ^ 4 ≡ 4294967296 = refl in
     record {
       count = omega (arith, p.most);
-      each = held-rings shape d (λ k l. ltb-false 4097 _ (not-true _ (fault_below not_over shape k (omega (arith, p.many)))));
+      each = held_rings shape d (λ k l. ltb-false 4097 _ (not-true _ (fault_below not_over shape k (omega (arith, p.many)))));
     }
 
 -- Take any polygon of doubles. Let each of them, scaled and rounded, be an i32, and let the outline of these numbers pass 01's rules 1 to 4, and the scale

@@ -1,4 +1,6 @@
 // An outline from a polygon in well-known binary, into lent room: read, judged by 01's rules, stored.
+#![tactic(auto)]
+
 ghost use Rattle.std.specs.Prelude.{◌≡◌, true, ◌+◌, ◌*◌, ◌≤◌, length, take};
 ghost use Rattle.wkb_fields.specs.Fields.{field_of};
 ghost use Rattle.wkb_shape.specs.Inner.Laid.{points_of, rings_of, Whole};

@@ -19,8 +19,8 @@ use Rattle.wkb_shape.specs.declared.Header.TheVariants.{Of, Unheaded}
 use Rattle.wkb_shape.specs.declared.Shaped.TheVariants.{Rings, Unshaped}
 use Rattle.wkb_shape.specs.Wkb.{Shape, Got, got, stop, then, field, rings, order_at, type_at, count_at, header, polygon, whole}
 use Rattle.wkb_shape.specs.Inner.Laid.{end_of, order_told, header_told, shape_told, rings_of, Whole}
-use Rattle.wkb_shape.proofs.Reading.{end_got, then-got, then_go, then-stop, then_past, ordered_as, ordered-not, header_of, header-not, field_fits, field_cut, field-got}
-use Rattle.wkb_shape.proofs.Laid.{rings_laid, rings-length}
+use Rattle.wkb_shape.proofs.Reading.{end_got, then_got, then_go, then_stop, then_past, ordered_as, ordered_not, header_of, header_not, field_fits, field_cut, field_got}
+use Rattle.wkb_shape.proofs.Laid.{rings_laid, rings_length}
 
 module _ (bytes : List ℕ) where
   byte_at : (at : ℕ) → at < length bytes → field_of Little 1 bytes at ≡ get_or bytes at 0
@@ -73,26 +73,26 @@ module _ (bytes : List ℕ) where
       type_got : (t p : ℕ) → type_at bytes order at ≡ got t p → (at + 4 ≤ length bytes) × (p ≡ at + 4)
       unfolding type_at
       type_got t p e =
-          let s = then-got (field bytes order 4 at) _ t p e in
-          let f = field-got bytes order 4 at s.0 s.1 s.2 in (f.0, kept (eqb s.0 3) s.0 s.1 s.3 ∙ f.1)
+          let s = then_got (field bytes order 4 at) _ t p e in
+          let f = field_got bytes order 4 at s.0 s.1 s.2 in (f.0, kept (eqb s.0 3) s.0 s.1 s.3 ∙ f.1)
         where
           kept : (b : Bool) (x q : ℕ) → cond b (got x q) (stop (Unknown at)) ≡ got t p → p ≡ q
           kept true x q e = cc
           kept false x q e = let z : ◌≡◌ {A = ℕ} 0 1 = cc in absurd (omega arith)
 
-    order-got : (order : ByteOrder) (p : ℕ) → order_at bytes at ≡ got order p → (at + 1 ≤ length bytes) × (p ≡ at + 1)
+    order_got : (order : ByteOrder) (p : ℕ) → order_at bytes at ≡ got order p → (at + 1 ≤ length bytes) × (p ≡ at + 1)
     unfolding order_at
-    order-got order p e =
-        let s = then-got (field bytes Little 1 at) _ order p e in
-        let f = field-got bytes Little 1 at s.0 s.1 s.2 in (f.0, kept (eqb s.0 0) (eqb s.0 1) s.1 s.3 ∙ f.1)
+    order_got order p e =
+        let s = then_got (field bytes Little 1 at) _ order p e in
+        let f = field_got bytes Little 1 at s.0 s.1 s.2 in (f.0, kept (eqb s.0 0) (eqb s.0 1) s.1 s.3 ∙ f.1)
       where
         kept : (a b : Bool) (q : ℕ) → cond a (got Big q) (cond b (got Little q) (stop (Unknown at))) ≡ got order p → p ≡ q
         kept true b q e = cc
         kept false true q e = cc
         kept false false q e = let z : ◌≡◌ {A = ℕ} 0 1 = cc in absurd (omega arith)
 
-    pub order-within : (order : ByteOrder) (p : ℕ) → order_told (order_at bytes at) ≡ As order p → p ≤ length bytes
-    order-within order p e = let g = order-got order p (ordered_as (order_at bytes at) order p e) in omega arith
+    pub order_within : (order : ByteOrder) (p : ℕ) → order_told (order_at bytes at) ≡ As order p → p ≤ length bytes
+    order_within order p e = let g = order_got order p (ordered_as (order_at bytes at) order p e) in omega arith
 
   pub type_within : (order : ByteOrder) (at p : ℕ) → end_of (type_at bytes order at) ≡ Past p → (p ≤ length bytes) × (p ≡ at + 4)
   unfolding end_of
@@ -106,13 +106,13 @@ module _ (bytes : List ℕ) where
   module _ (at : ℕ) where
     pub header_unordered : (why : WkbRefusal) → order_told (order_at bytes at) ≡ Unordered why → Unheaded why ≡ header_told (header bytes at)
     unfolding header then header_told
-    header_unordered why e = rw (ordered-not (order_at bytes at) why e)
+    header_unordered why e = rw (ordered_not (order_at bytes at) why e)
 
     pub header_stopped : (order : ByteOrder) (p : ℕ) (why : WkbRefusal) → order_told (order_at bytes at) ≡ As order p
         → end_of (type_at bytes order p) ≡ Stopped why → Unheaded why ≡ header_told (header bytes at)
     unfolding header header_told
     header_stopped order p why e s =
-        sym (ap header_told (then_go (order_at bytes at) _ order p (ordered_as (order_at bytes at) order p e) ∙ then-stop (type_at bytes order p) _ why s))
+        sym (ap header_told (then_go (order_at bytes at) _ order p (ordered_as (order_at bytes at) order p e) ∙ then_stop (type_at bytes order p) _ why s))
 
     header_is : (order : ByteOrder) (p q : ℕ) → order_told (order_at bytes at) ≡ As order p → end_of (type_at bytes order p) ≡ Past q
         → header bytes at ≡ count_at bytes order q
@@ -120,25 +120,25 @@ module _ (bytes : List ℕ) where
     header_is order p q e s =
         then_go (order_at bytes at) _ order p (ordered_as (order_at bytes at) order p e) ∙ then_past (type_at bytes order p) (count_at bytes order) q s
 
-    pub header-counted : (order : ByteOrder) (p q : ℕ) → order_told (order_at bytes at) ≡ As order p → end_of (type_at bytes order p) ≡ Past q
+    pub header_counted : (order : ByteOrder) (p q : ℕ) → order_told (order_at bytes at) ≡ As order p → end_of (type_at bytes order p) ≡ Past q
         → header_told (count_at bytes order q) ≡ header_told (header bytes at)
-    header-counted order p q e s = ap header_told (sym (header_is order p q e s))
+    header_counted order p q e s = ap header_told (sym (header_is order p q e s))
 
     -- it takes nine bytes
     header_nine : (order : ByteOrder) (n r : ℕ) → header bytes at ≡ got (order, n) r → (r ≤ length bytes) × (r ≡ at + 9)
     unfolding header count_at
     header_nine order n r e =
-        let a = then-got (order_at bytes at) _ (order, n) r e in
-        let b = then-got (type_at bytes a.0 a.1) _ (order, n) r a.3 in
-        let c = then-got (field bytes a.0 4 b.1) _ (order, n) r b.3 in
-        let first = order-got at a.0 a.1 a.2 in
+        let a = then_got (order_at bytes at) _ (order, n) r e in
+        let b = then_got (type_at bytes a.0 a.1) _ (order, n) r a.3 in
+        let c = then_got (field bytes a.0 4 b.1) _ (order, n) r b.3 in
+        let first = order_got at a.0 a.1 a.2 in
         let second = type_got a.1 a.0 b.0 b.1 b.2 in
-        let third = field-got bytes a.0 4 b.1 c.0 c.1 c.2 in
+        let third = field_got bytes a.0 4 b.1 c.0 c.1 c.2 in
         let f = c.3 in
         let last : r ≡ c.1 = cc in (omega arith, omega arith)
 
-    pub header-within : (order : ByteOrder) (n r : ℕ) → header_told (header bytes at) ≡ Of order n r → (r ≤ length bytes) × (r ≡ at + 9)
-    header-within order n r e = header_nine order n r (header_of (header bytes at) order n r e)
+    pub header_within : (order : ByteOrder) (n r : ℕ) → header_told (header bytes at) ≡ Of order n r → (r ≤ length bytes) × (r ≡ at + 9)
+    header_within order n r e = header_nine order n r (header_of (header bytes at) order n r e)
 
   -- all bytes, told part by part
   polygon_is : (order : ByteOrder) (n r : ℕ) → header_told (header bytes 0) ≡ Of order n r
@@ -154,12 +154,12 @@ module _ (bytes : List ℕ) where
 
   pub shape_unheaded : (why : WkbRefusal) → header_told (header bytes 0) ≡ Unheaded why → Unshaped why ≡ shape_told (whole bytes)
   unfolding whole polygon then shape_told
-  shape_unheaded why e = rw (header-not (header bytes 0) why e)
+  shape_unheaded why e = rw (header_not (header bytes 0) why e)
 
   pub shape_stopped : (order : ByteOrder) (n r : ℕ) (why : WkbRefusal) → header_told (header bytes 0) ≡ Of order n r
       → end_of (rings bytes order n r) ≡ Stopped why → Unshaped why ≡ shape_told (whole bytes)
   unfolding whole then shape_told
-  shape_stopped order n r why e s = rw (polygon_is order n r e ∙ then-stop (rings bytes order n r) _ why s)
+  shape_stopped order n r why e s = rw (polygon_is order n r e ∙ then_stop (rings bytes order n r) _ why s)
 
   module _ (order : ByteOrder) (n r end : ℕ) (e : header_told (header bytes 0) ≡ Of order n r) (s : end_of (rings bytes order n r) ≡ Past end) where
     pub shape_over : (end ≡ length bytes → ⊥) → Unshaped (Ends end) ≡ shape_told (whole bytes)
@@ -168,7 +168,7 @@ module _ (bytes : List ℕ) where
 
     pub shape_whole : end ≡ length bytes → Rings order n ≡ shape_told (whole bytes)
     unfolding shape_told
-    shape_whole t = rw (whole_is order n r end e s, eq-eqb end (length bytes) t) (ap (Rings order) (sym (rings-length bytes order n r)))
+    shape_whole t = rw (whole_is order n r end e s, eq-eqb end (length bytes) t) (ap (Rings order) (sym (rings_length bytes order n r)))
 
   -- what the pass has told, of the shape that is read
   pub record Laid (order : ByteOrder) (n : ℕ) : Type 0 where
@@ -185,7 +185,7 @@ module _ (bytes : List ℕ) where
       let there = sym (ap (λ (q : ℕ). end_of (rings bytes o m q)) place) ∙ end_got (rings bytes o m r) shape end g in
       let list : got shape end ≡ got (rings_of bytes o m 9) end = sym g ∙ ap (rings bytes o m) place ∙ rings_laid bytes o m 9 end there in
       let same : shape ≡ rings_of bytes o m 9 = cc in
-      let counts : m ≡ n = sym (rings-length bytes o m 9) ∙ ap length (sym same) ∙ count in
+      let counts : m ≡ n = sym (rings_length bytes o m 9) ∙ ap length (sym same) ∙ count in
       record {
         ends = ap (λ (k : ℕ). end_of (rings bytes o k 9)) (sym counts) ∙ there ∙ ap Past all;
         read = w ∙ ap₂ (λ (rs : Shape) (q : ℕ). got (o, rs) q) (same ∙ ap (λ (k : ℕ). rings_of bytes o k 9) counts) all;
@@ -194,10 +194,10 @@ module _ (bytes : List ℕ) where
   laid_by : (o : ByteOrder) (shape : Shape) (end : ℕ) → whole bytes ≡ got (o, shape) end → Laid o (length shape)
   unfolding whole polygon
   laid_by o shape end w =
-      let a = then-got (polygon bytes 0) _ (o, shape) end w in
+      let a = then_got (polygon bytes 0) _ (o, shape) end w in
       let b = whole_end (eqb a.1 (length bytes)) a.0 (o, shape) a.1 end a.3 in
-      let c = then-got (header bytes 0) _ a.0 a.1 a.2 in
-      let d = then-got (rings bytes c.0.0 c.0.1 c.1) _ a.0 a.1 c.3 in
+      let c = then_got (header bytes 0) _ a.0 a.1 a.2 in
+      let d = then_got (rings bytes c.0.0 c.0.1 c.1) _ a.0 a.1 c.3 in
       let nine = header_nine 0 c.0.0 c.0.1 c.1 c.2 in
       let last : ◌≡◌ {A = Got (ByteOrder × Shape)} (got (c.0.0, d.0) d.1) (got (o, shape) end) = d.3 ∙ ap₂ got b.1 b.2 in
       let pair : ◌≡◌ {A = ByteOrder × Shape} (c.0.0, d.0) (o, shape) = cc in

@@ -15,12 +15,12 @@ use Rattle.wkb_shape.specs.declared.Walked.{Walked}
 use Rattle.wkb_shape.specs.declared.Walked.TheVariants.{Past, Stopped}
 use Rattle.wkb_shape.specs.Wkb.{got, stop, then, point, points, ring, rings}
 use Rattle.wkb_shape.specs.Inner.Laid.{end_of, points_of, count_of, next_of, rings_of}
-use Rattle.wkb_shape.proofs.Reading.{then_go, then-stop, end_both, field_fits, field_cut}
+use Rattle.wkb_shape.proofs.Reading.{then_go, then_stop, end_both, field_fits, field_cut}
 
 module _ (bytes : List ℕ) (order : ByteOrder) where
-  point-fits : (at : ℕ) → at + 16 ≤ length bytes → point bytes order at ≡ got (field_of order 8 bytes at, field_of order 8 bytes (at + 8)) (at + 16)
+  point_fits : (at : ℕ) → at + 16 ≤ length bytes → point bytes order at ≡ got (field_of order 8 bytes at, field_of order 8 bytes (at + 8)) (at + 16)
   unfolding point then
-  point-fits at h =
+  point_fits at h =
       let e : at + 8 + 8 ≡ at + 16 = omega arith in
       rw (field_fits bytes order 8 at (omega arith), field_fits bytes order 8 (at + 8) (omega arith), e)
 
@@ -38,7 +38,7 @@ module _ (bytes : List ℕ) (order : ByteOrder) where
   points_fit zero at h = let e : at ≡ at + 0 = omega arith in ap (got []) e
   points_fit (suc n) at h =
       let e : at + 16 + 16 * n ≡ at + 16 * suc n = omega arith in
-      rw (point-fits at (omega arith), points_fit n (at + 16) (omega arith), e)
+      rw (point_fits at (omega arith), points_fit n (at + 16) (omega arith), e)
 
   -- the first double that is not all there
   pub points_cut : (n at : ℕ) → at ≤ length bytes → (length bytes - at) / 8 < 2 * n
@@ -57,48 +57,48 @@ module _ (bytes : List ℕ) (order : ByteOrder) where
       rw (point_half at b a) (ap (λ (p : ℕ). stop (Ends p)) e))
       (λ (a : at + 16 ≤ length bytes).
       let e : at + 16 + 8 * ((length bytes - (at + 16)) / 8) ≡ at + 8 * ((length bytes - at) / 8) = omega arith in
-      rw (point-fits at a, points_cut n (at + 16) a (omega arith)) (ap (λ (p : ℕ). stop (Ends p)) e))
+      rw (point_fits at a, points_cut n (at + 16) a (omega arith)) (ap (λ (p : ℕ). stop (Ends p)) e))
       (lt_or (length bytes) (at + 16)))
       (lt_or (length bytes) (at + 8))
 
-  pub points-length : (n at : ℕ) → length (points_of bytes order n at) ≡ n
+  pub points_length : (n at : ℕ) → length (points_of bytes order n at) ≡ n
   unfolding points_of
-  points-length zero at = refl
-  points-length (suc n) at = ap suc (points-length n (at + 16))
+  points_length zero at = refl
+  points_length (suc n) at = ap suc (points_length n (at + 16))
 
-  pub rings-length : (n at : ℕ) → length (rings_of bytes order n at) ≡ n
+  pub rings_length : (n at : ℕ) → length (rings_of bytes order n at) ≡ n
   unfolding rings_of
-  rings-length zero at = refl
-  rings-length (suc n) at = ap suc (rings-length n (next_of bytes order at))
+  rings_length zero at = refl
+  rings_length (suc n) at = ap suc (rings_length n (next_of bytes order at))
 
   -- one ring
   ring_cut : (at : ℕ) → length bytes < at + 4 → ring bytes order at ≡ stop (Ends at)
   unfolding ring then
   ring_cut at h = rw (field_cut bytes order 4 at h)
 
-  ring-points : (at : ℕ) → at + 4 ≤ length bytes → ring bytes order at ≡ points bytes order (count_of bytes order at) (at + 4)
+  ring_points : (at : ℕ) → at + 4 ≤ length bytes → ring bytes order at ≡ points bytes order (count_of bytes order at) (at + 4)
   unfolding ring then count_of
-  ring-points at h = rw (field_fits bytes order 4 at h)
+  ring_points at h = rw (field_fits bytes order 4 at h)
 
   -- where reading rings ends
   pub rings_cut : (n at : ℕ) → length bytes < at + 4 → end_of (rings bytes order (suc n) at) ≡ Stopped (Ends at)
   unfolding rings then end_of
   rings_cut n at h = rw (ring_cut at h)
 
-  pub rings-stop : (n at : ℕ) (why : WkbRefusal) → at + 4 ≤ length bytes
+  pub rings_stop : (n at : ℕ) (why : WkbRefusal) → at + 4 ≤ length bytes
       → end_of (points bytes order (count_of bytes order at) (at + 4)) ≡ Stopped why → end_of (rings bytes order (suc n) at) ≡ Stopped why
   unfolding rings end_of
-  rings-stop n at why h e = ap end_of (then-stop (ring bytes order at) _ why (ap end_of (ring-points at h) ∙ e))
+  rings_stop n at why h e = ap end_of (then_stop (ring bytes order at) _ why (ap end_of (ring_points at h) ∙ e))
 
   pub rings_on : (n at p : ℕ) → at + 4 ≤ length bytes → end_of (points bytes order (count_of bytes order at) (at + 4)) ≡ Past p
       → end_of (rings bytes order (suc n) at) ≡ end_of (rings bytes order n p)
   unfolding rings
-  rings_on n at p h e = end_both (ring bytes order at) (rings bytes order n) (λ r rs. r ∷ rs) p (ap end_of (ring-points at h) ∙ e)
+  rings_on n at p h e = end_both (ring bytes order at) (rings bytes order n) (λ r rs. r ∷ rs) p (ap end_of (ring_points at h) ∙ e)
 
   -- a reading of points that is not stopped is within the bytes
-  pub points-within : (n at p : ℕ) → at ≤ length bytes → end_of (points bytes order n at) ≡ Past p → (at + 16 * n ≤ length bytes) × (p ≡ at + 16 * n)
+  pub points_within : (n at p : ℕ) → at ≤ length bytes → end_of (points bytes order n at) ≡ Past p → (at + 16 * n ≤ length bytes) × (p ≡ at + 16 * n)
   unfolding end_of
-  points-within n at p l e =
+  points_within n at p l e =
       ⊎_elim
       (λ (no : (length bytes - at) / 8 < 2 * n).
       let s = sym (ap end_of (points_cut n at l no)) ∙ e in let z : ◌≡◌ {A = ℕ} 0 1 = cc in absurd (omega arith))
@@ -123,14 +123,14 @@ module _ (bytes : List ℕ) (order : ByteOrder) where
       (lt_or (length bytes) (at + 4))
     where
       by_points : at + 4 ≤ length bytes → (w : Walked) → end_of (points bytes order (count_of bytes order at) (at + 4)) ≡ w → Begun n at q
-      by_points h (Stopped why) s = let t = sym (rings-stop n at why h s) ∙ e in let z : ◌≡◌ {A = ℕ} 0 1 = cc in absurd (omega arith)
+      by_points h (Stopped why) s = let t = sym (rings_stop n at why h s) ∙ e in let z : ◌≡◌ {A = ℕ} 0 1 = cc in absurd (omega arith)
       by_points h (Past p) s =
-          let in_bytes = points-within (count_of bytes order at) (at + 4) p h s in
+          let in_bytes = points_within (count_of bytes order at) (at + 4) p h s in
           record {
             counted = h;
             within = in_bytes.0;
             later = ap (λ (m : ℕ). end_of (rings bytes order n m)) (sym in_bytes.1) ∙ sym (rings_on n at p h s) ∙ e;
-            first = ring-points at h ∙ points_fit (count_of bytes order at) (at + 4) in_bytes.0;
+            first = ring_points at h ∙ points_fit (count_of bytes order at) (at + 4) in_bytes.0;
           }
 
   -- what is read where reading is not stopped
@@ -160,11 +160,11 @@ module _ (bytes : List ℕ) (order : ByteOrder) where
 
     pub pass_stop : (why : WkbRefusal) → 4 ≤ length bytes - at → end_of (points bytes order (count_of bytes order at) (at + 4)) ≡ Stopped why
         → Stopped why ≡ end_of (rings bytes order n start)
-    pass_stop why l e = sym (rings-stop (n - (k + 1)) at why (omega arith) e) ∙ ap (λ (m : ℕ). end_of (rings bytes order m at)) (sym one_more) ∙ i.same
+    pass_stop why l e = sym (rings_stop (n - (k + 1)) at why (omega arith) e) ∙ ap (λ (m : ℕ). end_of (rings bytes order m at)) (sym one_more) ∙ i.same
 
     pub pass_on : (p : ℕ) → 4 ≤ length bytes - at → end_of (points bytes order (count_of bytes order at) (at + 4)) ≡ Past p → Passing n start p (k + 1)
     pass_on p l e =
-        let w = points-within (count_of bytes order at) (at + 4) p (omega arith) e in
+        let w = points_within (count_of bytes order at) (at + 4) p (omega arith) e in
         record {
           within = omega arith;
           inside = omega (arith, w.0, w.1);

@@ -19,19 +19,19 @@ use Rattle.wkb_shape.specs.Inner.Laid.{end_of, order_told, header_told}
 
 module _ {A B : Type 0} where
   -- what a reading that gave something was put together from
-  pub then-got : (x : Got A) (f : A → ℕ → Got B) (y : B) (q : ℕ) → then x f ≡ got y q → (a : A) × (p : ℕ) × (x ≡ got a p) × (f a p ≡ got y q)
+  pub then_got : (x : Got A) (f : A → ℕ → Got B) (y : B) (q : ℕ) → then x f ≡ got y q → (a : A) × (p : ℕ) × (x ≡ got a p) × (f a p ≡ got y q)
   unfolding then
-  then-got (got a p) f y q e = (a, p, refl, e)
-  then-got (stop why) f y q e = let z : ◌≡◌ {A = ℕ} 0 1 = cc in absurd (omega arith)
+  then_got (got a p) f y q e = (a, p, refl, e)
+  then_got (stop why) f y q e = let z : ◌≡◌ {A = ℕ} 0 1 = cc in absurd (omega arith)
 
   pub then_go : (x : Got A) (f : A → ℕ → Got B) (a : A) (p : ℕ) → x ≡ got a p → then x f ≡ f a p
   unfolding then
   then_go x f a p e = rw e
 
-  pub then-stop : (x : Got A) (f : A → ℕ → Got B) (why : WkbRefusal) → end_of x ≡ Stopped why → then x f ≡ stop why
+  pub then_stop : (x : Got A) (f : A → ℕ → Got B) (why : WkbRefusal) → end_of x ≡ Stopped why → then x f ≡ stop why
   unfolding then end_of
-  then-stop (got a p) f why e = let z : ◌≡◌ {A = ℕ} 0 1 = cc in absurd (omega arith)
-  then-stop (stop other) f why e = let s : other ≡ why = cc in ap stop s
+  then_stop (got a p) f why e = let z : ◌≡◌ {A = ℕ} 0 1 = cc in absurd (omega arith)
+  then_stop (stop other) f why e = let s : other ≡ why = cc in ap stop s
 
   -- what follows and asks only for the place
   pub then_past : (x : Got A) (f : ℕ → Got B) (p : ℕ) → end_of x ≡ Past p → then x (λ a q. f q) ≡ f p
@@ -62,20 +62,20 @@ unfolding order_told
 ordered_as (got o q) order p e = let s : o ≡ order = cc in let t : q ≡ p = cc in cc
 ordered_as (stop why) order p e = let z : ◌≡◌ {A = ℕ} 0 1 = cc in absurd (omega arith)
 
-pub ordered-not : (x : Got ByteOrder) (why : WkbRefusal) → order_told x ≡ Unordered why → x ≡ stop why
+pub ordered_not : (x : Got ByteOrder) (why : WkbRefusal) → order_told x ≡ Unordered why → x ≡ stop why
 unfolding order_told
-ordered-not (got o q) why e = let z : ◌≡◌ {A = ℕ} 0 1 = cc in absurd (omega arith)
-ordered-not (stop other) why e = let s : other ≡ why = cc in ap stop s
+ordered_not (got o q) why e = let z : ◌≡◌ {A = ℕ} 0 1 = cc in absurd (omega arith)
+ordered_not (stop other) why e = let s : other ≡ why = cc in ap stop s
 
 pub header_of : (x : Got (ByteOrder × ℕ)) (order : ByteOrder) (n p : ℕ) → header_told x ≡ Of order n p → x ≡ got (order, n) p
 unfolding header_told
 header_of (got (o, m) q) order n p e = let s : o ≡ order = cc in let t : m ≡ n = cc in let u : q ≡ p = cc in cc
 header_of (stop why) order n p e = let z : ◌≡◌ {A = ℕ} 0 1 = cc in absurd (omega arith)
 
-pub header-not : (x : Got (ByteOrder × ℕ)) (why : WkbRefusal) → header_told x ≡ Unheaded why → x ≡ stop why
+pub header_not : (x : Got (ByteOrder × ℕ)) (why : WkbRefusal) → header_told x ≡ Unheaded why → x ≡ stop why
 unfolding header_told
-header-not (got (o, m) q) why e = let z : ◌≡◌ {A = ℕ} 0 1 = cc in absurd (omega arith)
-header-not (stop other) why e = let s : other ≡ why = cc in ap stop s
+header_not (got (o, m) q) why e = let z : ◌≡◌ {A = ℕ} 0 1 = cc in absurd (omega arith)
+header_not (stop other) why e = let s : other ≡ why = cc in ap stop s
 
 module _ (bytes : List ℕ) (order : ByteOrder) (w at : ℕ) where
   pub field_fits : at + w ≤ length bytes → field bytes order w at ≡ got (field_of order w bytes at) (at + w)
@@ -86,9 +86,9 @@ module _ (bytes : List ℕ) (order : ByteOrder) (w at : ℕ) where
   unfolding field
   field_cut h = rw (lt-leb (at + w) (length bytes) h)
 
-  pub field-got : (x p : ℕ) → field bytes order w at ≡ got x p → (at + w ≤ length bytes) × (p ≡ at + w)
+  pub field_got : (x p : ℕ) → field bytes order w at ≡ got x p → (at + w ≤ length bytes) × (p ≡ at + w)
   unfolding field
-  field-got x p e =
+  field_got x p e =
       ⊎_elim
       (λ (no : length bytes < at + w). let s = sym (field_cut no) ∙ e in let z : ◌≡◌ {A = ℕ} 0 1 = cc in absurd (omega arith))
       (λ (fits : at + w ≤ length bytes). let s = sym (field_fits fits) ∙ e in let t : p ≡ at + w = cc in (fits, t))

@@ -1,4 +1,6 @@
 // A polygon in well-known binary (OGC 06-103r4): its refusals, and the pass over all of its bytes, which finds out whether they are one polygon.
+#![tactic(auto)]
+
 ghost use Rattle.std.specs.Prelude.{◌≡◌, ◌+◌, ◌*◌, ◌≤◌, length};
 ghost use Rattle.wkb_shape.specs.Refusals.{wkb_number, wkb_place};
 ghost use Rattle.wkb_shape.specs.Wkb.{points, rings, order_at, type_at, count_at, header, whole};

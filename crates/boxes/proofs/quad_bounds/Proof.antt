@@ -1,6 +1,6 @@
 -- `boxes::quad_bounds` meets its contract. Assumes nothing.
 use borrow.Author.Rules.{rules}
-use Rattle.boxes.proofs.Sides.{whole-box}
+use Rattle.boxes.proofs.Sides.{whole_box}
 use Rattle.boxes.proofs.quad_bounds.Statement.{statement}
 use Rattle.boxes.proofs.quad_bounds.Tie as tie
 
@@ -20,7 +20,7 @@ returns-5 : tie.Need-returns-5
 returns-5 c =
     let a = c.before.before.before.args in
     let past = c.match.rest in
-    whole-box a.bounds a.q past.0.0.0.1 past.0.0.1 past.0.1 past.1
+    whole_box a.bounds a.q past.0.0.0.1 past.0.0.1 past.0.1 past.1
 
 pub quad-bounds-spec : {M : Type 1} → statement M
 quad-bounds-spec = tie.close (tie.spec (λ c κs. search rules) (λ c κs. search rules) (λ c κs. search rules) (λ c κs. search rules) returns returns-2 returns-3 returns-4 returns-5)

@@ -2,13 +2,13 @@
 use mathlib.Core.Path.{sym, subst}
 use lib.Dec.{T}
 use lib.Ieee.{of_bits}
-use Rattle.floats.proofs.Values.{abs-below, abs_zero, abs-above}
+use Rattle.floats.proofs.Values.{abs_below, abs_zero, abs_above}
 use Rattle.floats.proofs.abs.Statement.{statement}
 use Rattle.floats.proofs.abs.Tie as tie
 
 returns : tie.Need-returns
 unfolding of_bits
-returns c = abs-below _ c.if1.true
+returns c = abs_below _ c.if1.true
 
 returns-2 : tie.Need-returns-2
 unfolding of_bits
@@ -16,7 +16,7 @@ returns-2 c = abs_zero _ (subst T (sym c.before.before.well-formed.0.1) tt) c.if
 
 returns-3 : tie.Need-returns-3
 unfolding of_bits
-returns-3 c = abs-above _ c.before.if1.false c.if2.false
+returns-3 c = abs_above _ c.before.if1.false c.if2.false
 
 pub abs-spec : {M : Type 1} → statement M
 abs-spec = tie.close (tie.spec returns returns-2 returns-3)

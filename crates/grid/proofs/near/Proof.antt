@@ -5,14 +5,14 @@ use mir.Val.{SFits}
 use mir.Facts.{to_z-of_z}
 use borrow.Author.Rules.{rules}
 use Rattle.cross.specs.Cross.{cross, sign_of}
-use Rattle.grid.proofs.Within.{box-fits}
+use Rattle.grid.proofs.Within.{box_fits}
 use Rattle.grid.proofs.Results.{near_zero, near_above, near_below}
 use Rattle.grid.proofs.near.Statement.{statement}
 use Rattle.grid.proofs.near.Tie as tie
 
 narrow : (c : tie.Start) → SFits w32 c.args.px × SFits w32 c.args.py
 narrow c = let a = c.args in let f = c.ranges in
-    box-fits a.ax a.ay a.bx a.by a.px a.py f.ax f.ay f.bx f.by c.requires
+    box_fits a.ax a.ay a.bx a.by a.px a.py f.ax f.ay f.bx f.by c.requires
 
 cast-x : tie.Need-overflow-cast-x
 cast-x c = rw (to_z-of_z c.ranges.px) (narrow c).0

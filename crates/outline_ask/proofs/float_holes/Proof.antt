@@ -7,7 +7,7 @@ use borrow.Author.Rules.{rules}
 use lib.ListN.{length}
 use Rattle.outline_ring.specs.RingIndex.{lent}
 use Rattle.outline_check.specs.Outline.{start_of}
-use Rattle.outline_check.proofs.Starts.{start_none, start_more, part-within}
+use Rattle.outline_check.proofs.Starts.{start_none, start_more, part_within}
 use Rattle.outline_ask.specs.Inside.{float_test}
 use Rattle.outline_ask.proofs.Rings.{Unsettled, holes_done, hole_holds, hole_refused, hole_passed}
 use Rattle.outline_ask.proofs.float_holes.Statement.{statement}
@@ -43,14 +43,14 @@ returns c =
     let l = c.before.before.before.before.loop in
     let a = c.before.before.before.before.before.before.before.before.before.before.before.before.args in
     hole_holds (λ j. float_test a.sizes.now a.coords.now a.boxes.now (lent a.table.now a.spans.now a.stripes.now a.list.now a.bytes.now) a.p j false) (length a.sizes.now) l.k c.before.before.before.loop-test.true l.invariant.1
-    (sym c.before.before.ring-at.ensures ∙ c.enum_told.given.1)
+    (sym c.before.before.ring_at_lem.ensures ∙ c.enum_told.given.1)
 
 returns-2 : tie.Need-returns-2 invariant-loop decreases-loop
 returns-2 c =
     let l = c.before.before.before.before.before.loop in
     let a = c.before.before.before.before.before.before.before.before.before.before.before.before.before.args in
     hole_refused (λ j. float_test a.sizes.now a.coords.now a.boxes.now (lent a.table.now a.spans.now a.stripes.now a.list.now a.bytes.now) a.p j false) (length a.sizes.now) l.k c.before.before.before.before.loop-test.true l.invariant.1 _
-    (sym c.before.before.before.ring-at.ensures ∙ c.before.why.given.1)
+    (sym c.before.before.before.ring_at_lem.ensures ∙ c.before.why.given.1)
 
 cast-at-2 : tie.Need-overflow-cast-at-2 invariant-loop decreases-loop
 cast-at-2 c = let s = c.before.before.before.before.before.before.before.before.before.before.before.before.before in omega (arith, s.requires.small c.before.before.before.before.before.loop.k c.before.before.before.before.loop-test.true)
@@ -62,7 +62,7 @@ add_at : tie.Need-overflow-add-at invariant-loop decreases-loop
 add_at c =
     let s = c.before.before.before.before.before.before.before.before.before.before.before.before.before in
     let l = c.before.before.before.before.before.loop in
-    omega (arith, part-within s.requires l.k c.before.before.before.before.loop-test.true, l.invariant.0)
+    omega (arith, part_within s.requires l.k c.before.before.before.before.loop-test.true, l.invariant.0)
 
 loop-again : tie.Need-loop-preserved invariant-loop decreases-loop
 loop-again c =
@@ -71,7 +71,7 @@ loop-again c =
     let a = s.args in (
       omega (arith, start_more a.sizes.now l.k, l.invariant.0),
       hole_passed (λ j. float_test a.sizes.now a.coords.now a.boxes.now (lent a.table.now a.spans.now a.stripes.now a.list.now a.bytes.now) a.p j false) (length a.sizes.now) l.k c.before.before.before.before.loop-test.true l.invariant.1
-          (sym c.before.before.before.ring-at.ensures ∙ c.before.enum-told2.given.1),
+          (sym c.before.before.before.ring_at_lem.ensures ∙ c.before.enum-told2.given.1),
       omega (arith, c.before.before.before.before.loop-test.true),
     )
 

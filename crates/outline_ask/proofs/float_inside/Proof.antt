@@ -28,21 +28,21 @@ returns-2 c =
     let a = c.before.before.before.before.before.before.before.before.before.before.before.before.before.args in
     exterior_holds (holds (rect_at a.boxes.now 0) a.p) (float_test a.sizes.now a.coords.now a.boxes.now (lent a.table.now a.spans.now a.stripes.now a.list.now a.bytes.now) a.p) (rings a.sizes.now) a.edge
     (sym (c.before.before.before.before.before.contains-point.ensures ∙ ap (λ (r : Rect). holds r a.p) c.before.before.before.before.before.before.rect-at.ensures) ∙ not-false _ c.before.before.before.before.if1.false) _
-    (sym c.before.before.before.ring-at.ensures ∙ c.before.enum_told.given.1) c.float-holes.ensures
+    (sym c.before.before.before.ring_at_lem.ensures ∙ c.before.enum_told.given.1) c.float-holes.ensures
 
 returns-3 : tie.Need-returns-3
 returns-3 c =
     let a = c.before.before.before.before.before.before.before.before.before.before.before.before.args in
     exterior_passes (holds (rect_at a.boxes.now 0) a.p) (float_test a.sizes.now a.coords.now a.boxes.now (lent a.table.now a.spans.now a.stripes.now a.list.now a.bytes.now) a.p) (rings a.sizes.now) a.edge
     (sym (c.before.before.before.before.contains-point.ensures ∙ ap (λ (r : Rect). holds r a.p) c.before.before.before.before.before.rect-at.ensures) ∙ not-false _ c.before.before.before.if1.false)
-    (sym c.before.before.ring-at.ensures ∙ c.enum-told2.given.1)
+    (sym c.before.before.ring_at_lem.ensures ∙ c.enum-told2.given.1)
 
 returns-4 : tie.Need-returns-4
 returns-4 c =
     let a = c.before.before.before.before.before.before.before.before.before.before.before.before.before.args in
     exterior_refused (holds (rect_at a.boxes.now 0) a.p) (float_test a.sizes.now a.coords.now a.boxes.now (lent a.table.now a.spans.now a.stripes.now a.list.now a.bytes.now) a.p) (rings a.sizes.now) a.edge
     (sym (c.before.before.before.before.before.contains-point.ensures ∙ ap (λ (r : Rect). holds r a.p) c.before.before.before.before.before.before.rect-at.ensures) ∙ not-false _ c.before.before.before.before.if1.false) _
-    (sym c.before.before.before.ring-at.ensures ∙ c.before.why.given.1)
+    (sym c.before.before.before.ring_at_lem.ensures ∙ c.before.why.given.1)
 
 pub float-inside-spec : {M : Type 1} → statement M
 float-inside-spec =

@@ -10,7 +10,7 @@ use mir.Val.{to_z, of_z}
 use mir.Facts.{to_z-of_z}
 use Rattle.answers.specs.Answers.{said}
 use Rattle.outline_check.specs.Outline.{start_of}
-use Rattle.outline_check.proofs.Starts.{start_none, start_more, part-within}
+use Rattle.outline_check.proofs.Starts.{start_none, start_more, part_within}
 use Rattle.outline_ask.specs.Inside.{grid_test}
 use Rattle.outline_ask.proofs.Rings.{Unsettled, holes_done, hole_holds, hole_passed}
 use Rattle.outline_ask.proofs.grid_holes.Statement.{statement}
@@ -60,7 +60,7 @@ add_at : tie.Need-overflow-add-at invariant-loop decreases-loop
 add_at c =
     let s = c.before.before.before.before.before.before.before in
     let l = c.before.before.before.before.loop in
-    omega (arith, part-within s.requires l.k c.before.before.before.loop-test.true, l.invariant.0)
+    omega (arith, part_within s.requires l.k c.before.before.before.loop-test.true, l.invariant.0)
 
 loop-again : tie.Need-loop-preserved invariant-loop decreases-loop
 loop-again c =

@@ -4,7 +4,7 @@ use mathlib.Core.Bool.{true}
 use native.Mathlib.Omega.{arith}
 use borrow.Author.Rules.{rules}
 use Rattle.outline_check.proofs.Sound.{sound_shape}
-use Rattle.outline_build.proofs.Outcomes.{lacks_first, holds-first, built_all_lem, built_short}
+use Rattle.outline_build.proofs.Outcomes.{lacks_first, holds_first, built_all_lem, built_short}
 use Rattle.outline_build.proofs.build_zeroed.Statement.{statement}
 use Rattle.outline_build.proofs.build_zeroed.Tie as tie
 
@@ -24,7 +24,7 @@ index-rings-requires : tie.Need-index-rings-requires
 index-rings-requires c κs =
     let b = c.before.before.before.before.before.before.before.before.before.before.before.before.before.before in
     let a = b.args in
-    (b.requires.0, (b.requires.1, holds-first a.options a.sizes.now a.coords.now a.table.now a.spans.now a.stripes.now a.list.now a.bytes.now a.work.now c.before.before.before.before.before.before.if1.false))
+    (b.requires.0, (b.requires.1, holds_first a.options a.sizes.now a.coords.now a.table.now a.spans.now a.stripes.now a.list.now a.bytes.now a.work.now c.before.before.before.before.before.before.if1.false))
 
 returns-2 : tie.Need-returns-2
 returns-2 c =

@@ -12,7 +12,7 @@ use Rattle.rings.specs.Checks.{ring_checked}
 use Rattle.outline_check.specs.Outline.{rings, size_at, start_of}
 use Rattle.outline_check.specs.Rules.{shape_checked}
 use Rattle.outline_check.proofs.Sound.{sound_shape, ring_sound}
-use Rattle.outline_check.proofs.Starts.{part-within, part_is}
+use Rattle.outline_check.proofs.Starts.{part_within, part_is}
 use Rattle.outline_build.specs.Inner.Standing.{Standing}
 use Rattle.outline_build.proofs.Rings.{standing_first, standing_next, standing_short, standing_last, all_short, stripes_zero, list_zero, bytes_zero, fitting}
 use Rattle.outline_build.proofs.index_rings.Statement.{statement}
@@ -47,7 +47,7 @@ within : (sizes : List ℕ) (coords : List ℤ) (k from : ℕ) → shape_checked
     → (from + 2 * size_at sizes k ≤ length coords) × (2 ≤ size_at sizes k) × (size_at sizes k ≤ 4097)
 within sizes coords k from sound h e =
     let s = (sound_shape sizes coords true sound).1 in
-    (omega (arith, part-within s.counted k h), s.counted.enough k h, s.counted.small k h)
+    (omega (arith, part_within s.counted k h), s.counted.enough k h, s.counted.small k h)
 
 cast-points : tie.Need-overflow-cast-points invariant-loop decreases-loop
 cast-points c = omega (arith, c.shared-slice-known2.given c.before.before.loop.k)

@@ -21,9 +21,9 @@ module _ (options : BuildOptions) (sizes : List ℕ) (coords : List ℤ) (T : Li
   -- k rings are built in rooms as long as those
   pub record Standing (k : ℕ) (at : Places) (from : ℕ) (t : List ℕ) (f : List Float) (s l b w : List ℕ) : Type 0 where
     pub start : from ≡ 2 * start_of sizes k
-    pub stripes-at : at.stripes ≡ length (stripes_to options sizes coords k)
+    pub stripes_at : at.stripes ≡ length (stripes_to options sizes coords k)
     pub list_at : at.list ≡ length (list_to options sizes coords k)
-    pub bytes-at : at.bytes ≡ length (bytes_to options sizes coords k)
+    pub bytes_at : at.bytes ≡ length (bytes_to options sizes coords k)
     pub stripes_fit_of : at.stripes ≤ length S
     pub list_fit : at.list ≤ length L
     pub bytes_fit : at.bytes ≤ length B

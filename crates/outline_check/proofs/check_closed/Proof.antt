@@ -11,7 +11,7 @@ use Rattle.rings.specs.Checks.{closed}
 use Rattle.outline_check.specs.Outline.{start_of, size_at}
 use Rattle.outline_check.specs.Rules.{shut}
 use Rattle.outline_check.proofs.Rules.{Walking, walking, walk_on, walk_fault, walk_done}
-use Rattle.outline_check.proofs.Starts.{start_none, start_more, part-within, part_is, ring-length}
+use Rattle.outline_check.proofs.Starts.{start_none, start_more, part_within, part_is, ring_length}
 use Rattle.outline_check.proofs.check_closed.Statement.{statement}
 use Rattle.outline_check.proofs.check_closed.Tie as tie
 
@@ -28,19 +28,19 @@ cast-points : tie.Need-overflow-cast-points invariant-loop decreases-loop
 cast-points c = omega (arith, c.shared-slice-known2.given c.before.before.loop.k)
 
 mul-end : tie.Need-overflow-mul-end invariant-loop decreases-loop
-mul-end c = omega (arith, part-within c.before.before.before.before.requires c.before.before.loop.k c.before.loop-test.true)
+mul-end c = omega (arith, part_within c.before.before.before.before.requires c.before.before.loop.k c.before.loop-test.true)
 
 add-end : tie.Need-overflow-add-end invariant-loop decreases-loop
-add-end c = omega (arith, part-within c.before.before.before.before.requires c.before.before.loop.k c.before.loop-test.true)
+add-end c = omega (arith, part_within c.before.before.before.before.requires c.before.before.loop.k c.before.loop-test.true)
 
 mul-is-closed : tie.Need-overflow-mul-is-closed invariant-loop decreases-loop
-mul-is-closed c = omega (arith, part-within c.before.before.before.before.requires c.before.before.loop.k c.before.loop-test.true)
+mul-is-closed c = omega (arith, part_within c.before.before.before.before.requires c.before.before.loop.k c.before.loop-test.true)
 
 sub-is-closed : tie.Need-overflow-sub-is-closed invariant-loop decreases-loop
-sub-is-closed c = omega (arith, part-within c.before.before.before.before.requires c.before.before.loop.k c.before.loop-test.true)
+sub-is-closed c = omega (arith, part_within c.before.before.before.before.requires c.before.before.loop.k c.before.loop-test.true)
 
 part-is-closed-end : tie.Need-slice-bounds-is-closed-end invariant-loop decreases-loop
-part-is-closed-end c = omega (arith, part-within c.before.before.before.before.requires c.before.before.loop.k c.before.loop-test.true)
+part-is-closed-end c = omega (arith, part_within c.before.before.before.before.requires c.before.before.loop.k c.before.loop-test.true)
 
 is-closed-requires : tie.Need-is-closed-requires invariant-loop decreases-loop
 is-closed-requires c κs =
@@ -49,7 +49,7 @@ is-closed-requires c κs =
     let pre = c.before.before.before.before.before.requires in
     let h = c.before.before.loop-test.true in
     let e = part_is a.sizes.now a.coords.now l.k l.start (l.start + 2 * size_at a.sizes.now l.k) l.invariant.0 refl in
-    (omega (arith, pre.enough l.k h), rw e (omega (arith, ring-length pre l.k h)))
+    (omega (arith, pre.enough l.k h), rw e (omega (arith, ring_length pre l.k h)))
 
 returns : tie.Need-returns invariant-loop decreases-loop
 returns c =

@@ -6,7 +6,7 @@ use borrow.Author.Rules.{rules}
 use borrow.Author.Tests.{not-true, not-false}
 use Rattle.rings.proofs.Checks.{sound_ring}
 use Rattle.rings.specs.Ring.{wide}
-use Rattle.outline_index.proofs.Steps.{stripes-none, stripes-put}
+use Rattle.outline_index.proofs.Steps.{stripes_none, stripes_put_lem}
 use Rattle.outline_index.proofs.ring_stripes.Statement.{statement}
 use Rattle.outline_index.proofs.ring_stripes.Tie as tie
 
@@ -17,7 +17,7 @@ returns : tie.Need-returns
 returns c =
     let b = c.before.before.before.before in
     let a = b.args in
-    stripes-none a.options (wide a.ring.now) a.points a.at a.stripes.now a.list.now b.requires.1.0 b.requires.1.1
+    stripes_none a.options (wide a.ring.now) a.points a.at a.stripes.now a.list.now b.requires.1.0 b.requires.1.1
     (sym c.before.gives-stripes.ensures ∙ not-true _ c.if1.true)
 
 returns-2 : tie.Need-returns-2
@@ -26,7 +26,7 @@ returns-2 c =
     let i = k.before.before.before in
     let b = i.before.before.before.before in
     let a = b.args in
-    stripes-put a.options (wide a.ring.now) a.points a.at a.stripes.now a.list.now b.requires.1.0 b.requires.1.1 _
+    stripes_put_lem a.options (wide a.ring.now) a.points a.at a.stripes.now a.list.now b.requires.1.0 b.requires.1.1 _
     (sym i.before.gives-stripes.ensures ∙ not-false _ i.if1.false) b.requires.0 _ _ _ k.build-stripes.ensures
 
 pub ring-stripes-spec : {M : Type 1} → statement M

@@ -6,7 +6,7 @@ use borrow.Author.Rules.{rules}
 use borrow.Author.Tests.{not-true, not-false}
 use Rattle.rings.proofs.Checks.{sound_ring}
 use Rattle.rings.specs.Ring.{wide}
-use Rattle.outline_index.proofs.Steps.{tree-none, tree-put}
+use Rattle.outline_index.proofs.Steps.{tree_none, tree_put_lem}
 use Rattle.outline_index.proofs.ring_tree.Statement.{statement}
 use Rattle.outline_index.proofs.ring_tree.Tie as tie
 
@@ -17,7 +17,7 @@ returns : tie.Need-returns
 returns c =
     let b = c.before.before.before.before in
     let a = b.args in
-    tree-none a.options (wide a.ring.now) a.points a.at a.bytes.now a.work.now b.requires.1.0 b.requires.1.1
+    tree_none a.options (wide a.ring.now) a.points a.at a.bytes.now a.work.now b.requires.1.0 b.requires.1.1
     (sym c.before.gives-tree.ensures ∙ not-true _ c.if1.true)
 
 returns-2 : tie.Need-returns-2
@@ -26,7 +26,7 @@ returns-2 c =
     let i = k.before.before.before in
     let b = i.before.before.before.before in
     let a = b.args in
-    tree-put a.options (wide a.ring.now) a.points a.at a.bytes.now a.work.now b.requires.1.0 b.requires.1.1 _
+    tree_put_lem a.options (wide a.ring.now) a.points a.at a.bytes.now a.work.now b.requires.1.0 b.requires.1.1 _
     (sym i.before.gives-tree.ensures ∙ not-false _ i.if1.false) b.requires.0 _ _ _ k.build-tree.ensures
 
 pub ring-tree-spec : {M : Type 1} → statement M

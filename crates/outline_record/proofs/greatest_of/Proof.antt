@@ -6,7 +6,7 @@ use mir.Syntax.{w32}
 use mir.Val.{to_z}
 use mir.Facts.{to_z-of_z}
 use Rattle.outline_record.specs.Record.{greater_z, greatest_z}
-use Rattle.outline_record.proofs.Extremes.{at, greatest-first, greatest_next}
+use Rattle.outline_record.proofs.Extremes.{at, greatest_first, greatest_next}
 use Rattle.outline_record.proofs.greatest_of.Statement.{statement}
 use Rattle.outline_record.proofs.greatest_of.Tie as tie
 
@@ -18,7 +18,7 @@ decreases-loop coords offset last high₀ i₀ high i = last - i
 
 loop-holds : tie.Need-loop-init invariant-loop decreases-loop
 loop-holds c =
-    (omega arith, to_z-of_z (record { sfits = c.high.given }) ∙ greatest-first c.before.args.coords.now c.before.args.offset)
+    (omega arith, to_z-of_z (record { sfits = c.high.given }) ∙ greatest_first c.before.args.coords.now c.before.args.offset)
 
 loop-again : tie.Need-loop-preserved invariant-loop decreases-loop
 loop-again c =

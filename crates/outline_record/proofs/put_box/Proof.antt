@@ -5,7 +5,7 @@ use lib.ListN.{length-set}
 use mir.Syntax.{w32}
 use mir.Val.{SFits}
 use mir.Facts.{to_z-of_z}
-use Rattle.outline_record.proofs.Boxes.{box-written}
+use Rattle.outline_record.proofs.Boxes.{box_written}
 use Rattle.outline_record.proofs.put_box.Statement.{statement}
 use Rattle.outline_record.proofs.put_box.Tie as tie
 
@@ -25,7 +25,7 @@ returns c =
     let f2 : SFits w32 c.before.greatest-of.result = record { sfits = c.before.greatest-of.type-inv } in
     let f3 : SFits w32 c.greatest-of2.result = record { sfits = c.greatest-of2.type-inv } in
     let a = c.before.before.before.before.args in
-    box-written a.out.now a.ring.now a.at a.points
+    box_written a.out.now a.ring.now a.at a.points
     (to_z-of_z f0 ∙ c.before.before.before.least-of.ensures)
     (to_z-of_z f1 ∙ c.before.before.least-of2.ensures)
     (to_z-of_z f2 ∙ c.before.greatest-of.ensures)

@@ -6,9 +6,9 @@ use mathlib.Core.List.{List}
 use lib.ListN.{length}
 use lib.IntN.{ℤ}
 use Rattle.room.specs.Room.{write}
-use Rattle.room.proofs.Write.{write-length}
+use Rattle.room.proofs.Write.{write_length}
 use Rattle.outline_check.specs.Outline.{size_at, start_of}
-use Rattle.outline_check.proofs.Starts.{start_none, start_more, part-within, part_is, ring-length}
+use Rattle.outline_check.proofs.Starts.{start_none, start_more, part_within, part_is, ring_length}
 use Rattle.outline_record.specs.Record.{box_numbers, boxes_to}
 use Rattle.outline_record.proofs.Boxes.{boxes_none, boxes_more}
 use Rattle.outline_record.proofs.put_boxes.Statement.{statement}
@@ -28,16 +28,16 @@ cast-points : tie.Need-overflow-cast-points invariant-loop decreases-loop
 cast-points c = omega (arith, c.shared-slice-known2.given c.before.before.loop.k)
 
 mul-end : tie.Need-overflow-mul-end invariant-loop decreases-loop
-mul-end c = omega (arith, part-within c.before.before.before.before.requires.0 c.before.before.loop.k c.before.loop-test.true)
+mul-end c = omega (arith, part_within c.before.before.before.before.requires.0 c.before.before.loop.k c.before.loop-test.true)
 
 add-end : tie.Need-overflow-add-end invariant-loop decreases-loop
-add-end c = omega (arith, part-within c.before.before.before.before.requires.0 c.before.before.loop.k c.before.loop-test.true)
+add-end c = omega (arith, part_within c.before.before.before.before.requires.0 c.before.before.loop.k c.before.loop-test.true)
 
 mul-put-box : tie.Need-overflow-mul-put-box invariant-loop decreases-loop
-mul-put-box c = omega (arith, part-within c.before.before.before.before.requires.0 c.before.before.loop.k c.before.loop-test.true)
+mul-put-box c = omega (arith, part_within c.before.before.before.before.requires.0 c.before.before.loop.k c.before.loop-test.true)
 
 part-put-box-end : tie.Need-slice-bounds-put-box-end invariant-loop decreases-loop
-part-put-box-end c = omega (arith, part-within c.before.before.before.before.requires.0 c.before.before.loop.k c.before.loop-test.true)
+part-put-box-end c = omega (arith, part_within c.before.before.before.before.requires.0 c.before.before.loop.k c.before.loop-test.true)
 
 put-box-requires : tie.Need-put-box-requires invariant-loop decreases-loop
 put-box-requires c κs =
@@ -46,7 +46,7 @@ put-box-requires c κs =
     let pre = c.before.before.before.before.before.before.requires in
     let h = c.before.before.before.loop-test.true in
     let e = part_is a.sizes.now a.coords.now l.k l.start (l.start + 2 * size_at a.sizes.now l.k) l.invariant.1 refl in
-    (omega (arith, pre.0.enough l.k h), rw e (omega (arith, ring-length pre.0 l.k h)), omega (arith, l.invariant.3, pre.1))
+    (omega (arith, pre.0.enough l.k h), rw e (omega (arith, ring_length pre.0 l.k h)), omega (arith, l.invariant.3, pre.1))
 
 loop-again : tie.Need-loop-preserved invariant-loop decreases-loop
 loop-again c =
@@ -59,7 +59,7 @@ loop-again c =
       c.before.put-box.ensures
           ∙ ap₂ (λ (o ring : List ℤ). write o (4 * l.k) (box_numbers ring n)) l.invariant.2 e
           ∙ boxes_more a.sizes.now a.coords.now a.out.now l.k,
-      ap length c.before.put-box.ensures ∙ write-length l.out (4 * l.k) _ ∙ l.invariant.3,
+      ap length c.before.put-box.ensures ∙ write_length l.out (4 * l.k) _ ∙ l.invariant.3,
     )
 
 same_length : tie.Need-same-length invariant-loop decreases-loop

@@ -7,7 +7,7 @@ use lib.IntN.{ℤ}
 use Rattle.answers.specs.declared.Refusal.TheVariants.{NoRoom}
 use Rattle.outline_record.specs.declared.Made.TheVariants.{Rings, Unmade}
 use Rattle.outline_record.specs.Record.{boxes_of}
-use Rattle.outline_record.proofs.Pad.{pad-none, recorded-fits, recorded-short, written_padded}
+use Rattle.outline_record.proofs.Pad.{pad_none, recorded_fits, recorded_short, written_padded}
 use Rattle.outline_record.proofs.Boxes.{boxes_length}
 use Rattle.outline_record.proofs.put_record.Statement.{statement}
 use Rattle.outline_record.proofs.put_record.Tie as tie
@@ -15,15 +15,15 @@ use Rattle.outline_record.proofs.put_record.Tie as tie
 returns : tie.Need-returns
 returns c =
     let a = c.before.before.before.before.before.args in
-    recorded-short a.sizes.now a.coords.now a.boxes.now c.before.before.before.if1.true
-    ∙ ap (λ (o : List ℤ). (Unmade NoRoom, o)) (sym (c.before.zero-from.ensures ∙ pad-none a.boxes.now))
+    recorded_short a.sizes.now a.coords.now a.boxes.now c.before.before.before.if1.true
+    ∙ ap (λ (o : List ℤ). (Unmade NoRoom, o)) (sym (c.before.zero-from.ensures ∙ pad_none a.boxes.now))
 
 returns-2 : tie.Need-returns-2
 returns-2 c =
     let h = c.before.before.before.before.before.before in
     let a = h.before.before.args in
     let n = length a.sizes.now in
-    recorded-fits a.sizes.now a.coords.now a.boxes.now h.if1.false
+    recorded_fits a.sizes.now a.coords.now a.boxes.now h.if1.false
     ∙ ap (λ (o : List ℤ). (Rings n, o))
     (sym
     (c.before.zero-from2.ensures

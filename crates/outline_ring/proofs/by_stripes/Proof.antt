@@ -8,7 +8,7 @@ use borrow.Author.Rules.{rules}
 use borrow.Author.Tests.{not-true, not-false}
 use Rattle.rings.specs.Ring.{wide}
 use Rattle.outline_ring.specs.RingIndex.{lent}
-use Rattle.outline_ring.proofs.Ways.{stripes_cut, stripes_there, stripes-whole}
+use Rattle.outline_ring.proofs.Ways.{stripes_cut, stripes_there, stripes_whole}
 use Rattle.outline_ring.proofs.by_stripes.Statement.{statement}
 use Rattle.outline_ring.proofs.by_stripes.Tie as tie
 
@@ -46,7 +46,7 @@ returns-2 c =
     let m = t.before.before.before in
     let a = m.before.before.before.before.before.before.before.before.args in
     c.test_in.ensures
-    ∙ stripes-whole (lent a.table.now a.spans.now a.stripes.now a.list.now []) a.k (wide a.ring.now) a.n a.p a.edge
+    ∙ stripes_whole (lent a.table.now a.spans.now a.stripes.now a.list.now []) a.k (wide a.ring.now) a.n a.p a.edge
     m.before.before.before.number_at.result m.before.before.number-at2.result m.before.number-at3.result m.number-at4.result
     t.before.before.stripes-lie.result t.before.lies.result t.lies2.result
     m.before.before.before.number_at.ensures m.before.before.number-at2.ensures m.before.number-at3.ensures m.number-at4.ensures

@@ -8,7 +8,7 @@ use borrow.Author.Rules.{rules}
 use borrow.Author.Tests.{leb-true, not-true, not-false}
 use Rattle.rings.specs.Ring.{wide}
 use Rattle.outline_ring.specs.RingIndex.{lent}
-use Rattle.outline_ring.proofs.Ways.{tree_cut, tree-whole}
+use Rattle.outline_ring.proofs.Ways.{tree_cut, tree_whole}
 use Rattle.outline_ring.proofs.by_tree.Statement.{statement}
 use Rattle.outline_ring.proofs.by_tree.Tie as tie
 
@@ -35,7 +35,7 @@ returns-2 c =
     let m = o.before.before in
     let a = m.before.before.before.before.args in
     c.test_in.ensures
-    ∙ tree-whole (lent a.table.now [] [] [] a.bytes.now) a.k a.tree.bounds (wide a.ring.now) a.tree.segments a.p a.edge
+    ∙ tree_whole (lent a.table.now [] [] [] a.bytes.now) a.k a.tree.bounds (wide a.ring.now) a.tree.segments a.p a.edge
     m.before.number_at.result m.number-at2.result o.before.lies.result m.before.number_at.ensures m.number-at2.ensures
     o.before.lies.ensures (not-false o.before.lies.result o.if1.false)
 

@@ -5,7 +5,7 @@ use mathlib.Core.List.{List}
 use native.Mathlib.Omega.{arith}
 use borrow.Author.Rules.{rules}
 use Rattle.answers.specs.declared.Refusal.TheVariants.{NoRoom}
-use Rattle.room.proofs.Fill.{pad-none}
+use Rattle.room.proofs.Fill.{pad_none}
 use Rattle.rings.specs.declared.Listed.TheVariants.{Unlisted}
 use Rattle.rings.specs.Ring.{wide, side_at, holds_height}
 use Rattle.rings.proofs.Listing.{Filling, filling_yes, filling_no, filling_short, filling_done}
@@ -28,7 +28,7 @@ returns c =
     let fill = h.before.before.before.before.before.zero-fill-u32 in
     filling_short _ _ _ l.out l.k l.i l.invariant _ fill.ensures fill.auto.0 h.before.loop-test.true
     (sym h.holds-height.ensures ∙ c.before.before.before.before.before.if1.true) c.before.before.before.before.if2.true
-    ∙ ap (λ (o : List ℕ). (Unlisted NoRoom, o)) (sym (c.before.before.zero-from-u32.ensures ∙ pad-none _))
+    ∙ ap (λ (o : List ℕ). (Unlisted NoRoom, o)) (sym (c.before.before.zero-from-u32.ensures ∙ pad_none _))
 
 loop-again : tie.Need-loop-preserved invariant-loop decreases-loop
 loop-again c =

@@ -1,12 +1,12 @@
 -- `room::zero_fill_u32` meets its contract.
 use mathlib.Core.Path.{◌∙◌}
 use borrow.Author.Rules.{rules}
-use Rattle.room.proofs.Fill.{pad-none}
+use Rattle.room.proofs.Fill.{pad_none}
 use Rattle.room.proofs.zero_fill_u32.Statement.{statement}
 use Rattle.room.proofs.zero_fill_u32.Tie as tie
 
 returns : tie.Need-returns
-returns c = c.before.before.zero-from-u32.ensures ∙ pad-none _
+returns c = c.before.before.zero-from-u32.ensures ∙ pad_none _
 
 pub zero-fill-u32-spec : {M : Type 1} → statement M
 zero-fill-u32-spec = tie.close (tie.spec (λ c κs. search rules) (λ c. search rules) returns)

@@ -17,18 +17,18 @@ mul-result c = omega (arith, c.before.before.scale.ensures.high)
 add-result : tie.Need-overflow-add-result
 add-result c =
     let s = c.before.before.before.scale.ensures in
-    omega (arith, (root_range _ _ _ s.long s.short c.before.before.whole-root.ensures).1)
+    omega (arith, (root_range _ _ _ s.long s.short c.before.before.whole_root_lem.ensures).1)
 
 sub-result : tie.Need-overflow-sub-result
 sub-result c =
     let s = c.before.before.before.scale.ensures in
-    omega (arith, (root_range _ _ _ s.long s.short c.before.before.whole-root.ensures).0)
+    omega (arith, (root_range _ _ _ s.long s.short c.before.before.whole_root_lem.ensures).0)
 
 add-result-2 : tie.Need-overflow-add-result-2
 add-result-2 c = search rules
 
 returns : tie.Need-returns
-returns c = root_bits_lem _ _ _ _ _ c.before.before.before.scale.ensures c.before.before.whole-root.ensures
+returns c = root_bits_lem _ _ _ _ _ c.before.before.before.scale.ensures c.before.before.whole_root_lem.ensures
 
 pub root-bits-spec : {M : Type 1} → statement M
 root-bits-spec =

@@ -7,7 +7,7 @@ use native.Mathlib.Omega.{arith}
 use borrow.Author.Rules.{rules}
 use Rattle.rings.specs.Ring.{wide}
 use Rattle.stripes_build.specs.declared.StripesBuilt.TheVariants.{Unstriped}
-use Rattle.stripes_build.proofs.Building.{from-under, from_reached, indexed_room}
+use Rattle.stripes_build.proofs.Building.{from_under, from_reached, indexed_room}
 use Rattle.stripes_build.proofs.build_sound.Statement.{statement}
 use Rattle.stripes_build.proofs.build_sound.Tie as tie
 
@@ -16,7 +16,7 @@ returns c =
     let l = c.before.before.before in
     let s = l.before.before.before.before in
     let a = s.before.before.before.before.args in
-    from-under (wide a.ring.now) a.n a.threshold a.stripes.now a.list.now c.if1.true
+    from_under (wide a.ring.now) a.n a.threshold a.stripes.now a.list.now c.if1.true
     ∙ ap₂ (λ (x y : List ℕ). (Unstriped, x, y)) (sym s.zero-fill-u32.ensures) (sym l.zero-fill-u322.ensures)
 
 build-checked-requires : tie.Need-build-checked-requires

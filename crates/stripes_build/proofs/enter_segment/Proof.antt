@@ -11,8 +11,8 @@ use Rattle.stripes_place.proofs.Mono.{stripe_below}
 use Rattle.stripes_index.specs.Index.{part_of, list_of, high_end, first_stripe, last_stripe, crosses}
 use Rattle.stripes_index.specs.Inner.States.{held}
 use Rattle.stripes_index.proofs.Turns.{part_length}
-use Rattle.stripes_index.proofs.Entering.{counts_to, numbers_to, stripe_reads, count_turn, number_turn, slot_inside, counts_from, counts_done, numbers-from, numbers_done}
-use Rattle.stripes_index.proofs.Crossing.{crosses-from, crosses_to, crosses-at}
+use Rattle.stripes_index.proofs.Entering.{counts_to, numbers_to, stripe_reads, count_turn, number_turn, slot_inside, counts_from, counts_done, numbers_from, numbers_done}
+use Rattle.stripes_index.proofs.Crossing.{crosses_from, crosses_to, crosses_at}
 use Rattle.rings.specs.Ring.{wide}
 use Rattle.stripes_build.proofs.enter_segment.Statement.{statement}
 use Rattle.stripes_build.proofs.enter_segment.Tie as tie
@@ -39,9 +39,9 @@ loop-holds c =
     let n = held (length a.ring.now) in
     let e : c.stripe-of2.result ≡ first_stripe (wide a.ring.now) a.least a.height a.m a.i = simp (c.stripe-of2.ensures, c.before.low_end_lem.ensures) in
     let f : c.before.before.stripe-of.result ≡ last_stripe (wide a.ring.now) a.least a.height a.m a.i = simp (c.before.before.stripe-of.ensures, c.before.before.before.high_end_lem.ensures) in
-    let from : (t : ℕ) → cross t a.i ≡ true → c.stripe-of2.result ≤ t = λ t h. omega (arith, e, crosses-from (wide a.ring.now) a.least a.height a.m t a.i h) in (
+    let from : (t : ℕ) → cross t a.i ≡ true → c.stripe-of2.result ≤ t = λ t h. omega (arith, e, crosses_from (wide a.ring.now) a.least a.height a.m t a.i h) in (
       p.1.1.0 ∙ ap (pad (length a.stripes.now)) (sym (counts_from cross a.m a.i c.stripe-of2.result (starts cross n) from)),
-      p.1.1.1 ∙ ap (pad (length a.list.now)) (sym (numbers-from cross a.m a.i c.stripe-of2.result n from)),
+      p.1.1.1 ∙ ap (pad (length a.list.now)) (sym (numbers_from cross a.m a.i c.stripe-of2.result n from)),
       refl,
       refl,
       omega arith,
@@ -54,7 +54,7 @@ add_at c =
     let l = c.before.before.before.before.before.loop in
     let b = c.before.before.before.before.before.before.before.before.before.before.before.before in
     let a = b.args in
-    let e = crosses-at (wide a.ring.now) a.least a.height a.m l.s a.i l.invariant.4 (omega arith) in
+    let e = crosses_at (wide a.ring.now) a.least a.height a.m l.s a.i l.invariant.4 (omega arith) in
     omega (
       arith,
       slot_inside (crosses (wide a.ring.now) a.least a.height a.m) a.m a.i l.s (omega arith) (held (length a.ring.now)) b.requires.0.0 e
@@ -66,7 +66,7 @@ mul-list c =
     let l = c.before.before.before.before.before.loop in
     let b = c.before.before.before.before.before.before.before.before.before.before.before.before in
     let a = b.args in
-    let e = crosses-at (wide a.ring.now) a.least a.height a.m l.s a.i l.invariant.4 (omega arith) in
+    let e = crosses_at (wide a.ring.now) a.least a.height a.m l.s a.i l.invariant.4 (omega arith) in
     omega (
       arith,
       slot_inside (crosses (wide a.ring.now) a.least a.height a.m) a.m a.i l.s (omega arith) (held (length a.ring.now)) b.requires.0.0 e
@@ -78,7 +78,7 @@ slice-write-list c =
     let l = c.before.before.before.before.before.loop in
     let b = c.before.before.before.before.before.before.before.before.before.before.before.before in
     let a = b.args in
-    let e = crosses-at (wide a.ring.now) a.least a.height a.m l.s a.i l.invariant.4 (omega arith) in
+    let e = crosses_at (wide a.ring.now) a.least a.height a.m l.s a.i l.invariant.4 (omega arith) in
     omega (
       arith,
       slot_inside (crosses (wide a.ring.now) a.least a.height a.m) a.m a.i l.s (omega arith) (held (length a.ring.now)) b.requires.0.0 e
@@ -102,7 +102,7 @@ loop-again c =
     let cross = crosses (wide a.ring.now) a.least a.height a.m in
     let n = held (length a.ring.now) in
     let r = stripe_reads cross a.m a.i l.s (omega arith) n (length a.stripes.now) l.stripes l.invariant.0 in
-    let e : cross l.s a.i ≡ true = crosses-at (wide a.ring.now) a.least a.height a.m l.s a.i l.invariant.4 (omega arith) in (
+    let e : cross l.s a.i ≡ true = crosses_at (wide a.ring.now) a.least a.height a.m l.s a.i l.invariant.4 (omega arith) in (
       ap (λ (xs : List ℕ). set xs (l.s * 2 + 1) (get_or xs (l.s * 2 + 1) 0 + 1)) l.invariant.0
           ∙ count_turn cross a.m a.i l.s (omega arith) (length a.stripes.now) (starts cross n) e,
       ap₂ (λ (xs : List ℕ) (k : ℕ). set xs k a.i) l.invariant.1 (ap₂ ◌+◌ (c.before.wide.ensures ∙ r.0) (c.wide2.ensures ∙ r.1))

@@ -11,12 +11,12 @@ use native.Mathlib.Omega.{arith}
 use borrow.Author.Rules.{rules}
 use Rattle.answers.specs.declared.Refusal.TheVariants.{NoRoom, Damaged}
 use Rattle.room.specs.Room.{write, pad}
-use Rattle.room.proofs.Fill.{write-pad}
+use Rattle.room.proofs.Fill.{write_pad}
 use Rattle.rings.specs.Ring.{wide, side_at, holds_height}
 use Rattle.stripes_find.specs.declared.StripesListed.TheVariants.{StripesFound, StripesUnlisted}
 use Rattle.stripes_find.specs.Search.{found_in, end_in}
-use Rattle.stripes_find.proofs.Reading.{Listing, listing_start, listing-kept, listing_passed, listing_full, listing_broken, listing_done}
-use Rattle.stripes_find.proofs.Pouring.{poured-whole, poured_hurt, poured-short}
+use Rattle.stripes_find.proofs.Reading.{Listing, listing_start, listing_kept, listing_passed, listing_full, listing_broken, listing_done}
+use Rattle.stripes_find.proofs.Pouring.{poured_whole, poured_hurt, poured_short}
 use Rattle.stripes_find.proofs.list_run.Statement.{statement}
 use Rattle.stripes_find.proofs.list_run.Tie as tie
 
@@ -61,7 +61,7 @@ returns-2 c =
     let r = listing_full a.n t a.list.now a.start a.past a.out.now l.out l.k l.at w.wide.result l.invariant.0
     w.before.before.loop-test.true b.requires.0.2 w.wide.ensures g.before.if1.false (sym g.holds-height.ensures ∙ z.before.before.before.if2.true)
     z.before.before.if3.true in
-    poured-short (found_in a.n t (slice a.start a.past a.list.now)) (end_in a.n a.start (slice a.start a.past a.list.now)) a.out.now
+    poured_short (found_in a.n t (slice a.start a.past a.list.now)) (end_in a.n a.start (slice a.start a.past a.list.now)) a.out.now
     (omega (arith, r, l.invariant.1))
     ∙ ap (λ (o : List ℕ). (StripesUnlisted NoRoom, o)) (sym (z.zero-fill-u322.ensures ∙ ap (λ (j : ℕ). replicate j 0) l.invariant.1))
 
@@ -73,7 +73,7 @@ loop-again c =
     let b = w.before.before.before.before.before.before in
     let a = b.args in
     let t = test a.ring.now a.y in
-    let r = listing-kept a.n t a.list.now a.start a.past a.out.now l.out l.k l.at w.wide.result l.invariant.0
+    let r = listing_kept a.n t a.list.now a.start a.past a.out.now l.out l.k l.at w.wide.result l.invariant.0
     w.before.before.loop-test.true b.requires.0.2 w.wide.ensures g.before.if1.false (sym g.holds-height.ensures ∙ c.before.before.if2.true) in
     (rw w.wide.ensures at r, simp length-set l.invariant.1, omega arith, simp length-set (omega arith))
 
@@ -101,9 +101,9 @@ returns-3 c =
     let all = found_in a.n t (slice a.start a.past a.list.now) in
     let r = listing_done a.n t a.list.now a.start a.past a.out.now l.out l.k l.at l.invariant.0 (omega arith) in
     let h : length all ≤ length a.out.now = omega (arith, r.0, l.invariant.1) in
-    poured-whole all (end_in a.n a.start (slice a.start a.past a.list.now)) a.out.now h r.1
+    poured_whole all (end_in a.n a.start (slice a.start a.past a.list.now)) a.out.now h r.1
     ∙ ap₂ (λ (k : ℕ) (o : List ℕ). (StripesFound k, o)) (sym r.0)
-    (sym (r.2 ∙ ap (λ (o : List ℕ). write o 0 all) b.requires.1 ∙ write-pad (length a.out.now) all h))
+    (sym (r.2 ∙ ap (λ (o : List ℕ). write o 0 all) b.requires.1 ∙ write_pad (length a.out.now) all h))
 
 pub list-run-spec : {M : Type 1} → statement M
 list-run-spec =

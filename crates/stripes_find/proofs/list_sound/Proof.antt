@@ -7,13 +7,13 @@ use lib.ListN.{length, replicate}
 use native.Mathlib.Omega.{arith}
 use borrow.Author.Rules.{rules}
 use Rattle.answers.specs.declared.Refusal.TheVariants.{Damaged}
-use Rattle.room.proofs.Fill.{pad-none}
+use Rattle.room.proofs.Fill.{pad_none}
 use Rattle.rings.specs.Ring.{wide, side_at, holds_height}
 use Rattle.stripes_find.specs.declared.StripesListed.TheVariants.{StripesFound, StripesUnlisted}
 use Rattle.stripes_find.specs.Search.{Reading, complete, damaged_at}
 use Rattle.stripes_find.specs.Listing.{poured}
 use Rattle.stripes_find.proofs.Parts.{read_broken, read_run}
-use Rattle.stripes_find.proofs.Pouring.{poured-whole, poured_hurt, poured_room, searched-outside, searched-within}
+use Rattle.stripes_find.proofs.Pouring.{poured_whole, poured_hurt, poured_room, searched_outside, searched_within}
 use Rattle.stripes_find.proofs.list_sound.Statement.{statement}
 use Rattle.stripes_find.proofs.list_sound.Tie as tie
 
@@ -22,9 +22,9 @@ returns c =
     let z = c.before.before.before.before in
     let a = z.before.before.before.before.before.args in
     ap (λ (r : Reading). poured r a.out.now)
-    (searched-outside (wide a.ring.now) a.n a.least a.height a.stripes.now a.list.now a.y (sym c.before.is-outside.ensures ∙ c.if1.true))
-    ∙ poured-whole [] complete a.out.now (omega arith) refl
-    ∙ ap (λ (o : List ℕ). (StripesFound 0, o)) (pad-none (length a.out.now) ∙ sym z.zero-fill-u32.ensures)
+    (searched_outside (wide a.ring.now) a.n a.least a.height a.stripes.now a.list.now a.y (sym c.before.is-outside.ensures ∙ c.if1.true))
+    ∙ poured_whole [] complete a.out.now (omega arith) refl
+    ∙ ap (λ (o : List ℕ). (StripesFound 0, o)) (pad_none (length a.out.now) ∙ sym z.zero-fill-u32.ensures)
 
 list-run-requires : tie.Need-list-run-requires
 list-run-requires c κs =
@@ -43,7 +43,7 @@ returns-2 c =
     let a = z.before.before.before.before.before.args in
     let p = c.before.part.given.0.0 in
     ap (λ (r : Reading). poured r a.out.now)
-    (searched-within (wide a.ring.now) a.n a.least a.height a.stripes.now a.list.now a.y (sym s.before.before.is-outside.ensures ∙ s.before.if1.false)
+    (searched_within (wide a.ring.now) a.n a.least a.height a.stripes.now a.list.now a.y (sym s.before.before.is-outside.ensures ∙ s.before.if1.false)
     ∙ read_broken a.n (λ i. holds_height (side_at (wide a.ring.now) i) a.y) a.least a.height a.stripes.now a.list.now a.y p
     (sym s.stripe-part.ensures ∙ c.before.part.given.1))
     ∙ poured_hurt [] (damaged_at p) a.out.now p (omega arith) refl
@@ -59,7 +59,7 @@ returns-3 c =
     let r = read_run a.n (λ i. holds_height (side_at (wide a.ring.now) i) a.y) a.least a.height a.stripes.now a.list.now a.y _ _
     (sym s.stripe-part.ensures ∙ l.before.before.before.part2.given.1) in
     ap (λ (r : Reading). poured r a.out.now)
-    (searched-within (wide a.ring.now) a.n a.least a.height a.stripes.now a.list.now a.y (sym s.before.before.is-outside.ensures ∙ s.before.if1.false)
+    (searched_within (wide a.ring.now) a.n a.least a.height a.stripes.now a.list.now a.y (sym s.before.before.is-outside.ensures ∙ s.before.if1.false)
     ∙ r.0)
     ∙ poured_room _ a.out.now _ (sym z.zero-fill-u32.auto.0)
     ∙ l.list-run.ensures

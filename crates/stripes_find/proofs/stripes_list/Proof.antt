@@ -5,7 +5,7 @@ use native.Mathlib.Omega.{arith}
 use borrow.Author.Rules.{rules}
 use Rattle.rings.proofs.Checks.{sound_ring}
 use Rattle.rings.specs.Ring.{wide}
-use Rattle.stripes_find.proofs.Pouring.{listed_faulty, listed-height, listed_sound}
+use Rattle.stripes_find.proofs.Pouring.{listed_faulty, listed_height, listed_sound}
 use Rattle.stripes_find.proofs.stripes_list.Statement.{statement}
 use Rattle.stripes_find.proofs.stripes_list.Tie as tie
 
@@ -47,7 +47,7 @@ returns-3 c =
     let f = c.before in
     let k = f.before.before.before in
     let a = k.before.before.before.before.args in
-    listed-height _ (wide a.coords.now) a.points a.least a.height a.stripes.now a.list.now a.y a.out.now
+    listed_height _ (wide a.coords.now) a.points a.least a.height a.stripes.now a.list.now a.y a.out.now
     (sym k.check-ring.ensures ∙ f.before.enum_told.given.1) (sym f.is_finite.ensures ∙ c.if1.false)
 
 pub stripes-list-spec : {M : Type 1} → statement M

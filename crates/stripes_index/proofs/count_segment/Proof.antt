@@ -14,7 +14,7 @@ use Rattle.stripes_index.specs.Index.{part_of, low_end, high_end, first_stripe, 
 use Rattle.stripes_index.specs.Inner.States.{none}
 use Rattle.stripes_index.proofs.Turns.{part_length}
 use Rattle.stripes_index.proofs.Entering.{counts_to, count_is, count_turn, counts_from, counts_done}
-use Rattle.stripes_index.proofs.Crossing.{crosses-from, crosses_to, crosses-at}
+use Rattle.stripes_index.proofs.Crossing.{crosses_from, crosses_to, crosses_at}
 use Rattle.stripes_index.proofs.count_segment.Statement.{statement}
 use Rattle.stripes_index.proofs.count_segment.Tie as tie
 
@@ -36,7 +36,7 @@ loop-holds c =
       p.1
           ∙ ap (pad (length a.stripes.now))
           (sym (counts_from (crosses (wide a.ring.now) a.least a.height a.m) a.m a.i c.stripe-of2.result none
-          (λ t h. omega (arith, e, crosses-from (wide a.ring.now) a.least a.height a.m t a.i h)))),
+          (λ t h. omega (arith, e, crosses_from (wide a.ring.now) a.least a.height a.m t a.i h)))),
       refl,
       omega arith,
       f,
@@ -58,7 +58,7 @@ loop-again c =
     let a = c.before.before.before.before.before.before.before.before.args in (
       ap (λ (xs : List ℕ). set xs (l.s * 2 + 1) (get_or xs (l.s * 2 + 1) 0 + 1)) l.invariant.0
           ∙ count_turn (crosses (wide a.ring.now) a.least a.height a.m) a.m a.i l.s (omega arith) (length a.stripes.now) none
-          (crosses-at (wide a.ring.now) a.least a.height a.m l.s a.i l.invariant.2 (omega arith)),
+          (crosses_at (wide a.ring.now) a.least a.height a.m l.s a.i l.invariant.2 (omega arith)),
       simp length-set l.invariant.1,
       omega arith,
       l.invariant.3,

@@ -9,7 +9,7 @@ use native.Mathlib.Numerals.{add-one}
 use borrow.Author.Rules.{rules}
 use Rattle.room.specs.Room.{pad}
 use Rattle.stripes_index.specs.Inner.States.{second_at, sum_to, most_to}
-use Rattle.stripes_index.proofs.Starts.{starts_to, starts_none, starts_all, start-count, start_turn, sum_bound}
+use Rattle.stripes_index.proofs.Starts.{starts_to, starts_none, starts_all, start_count, start_turn, sum_bound}
 use Rattle.stripes_index.proofs.place_starts.Statement.{statement}
 use Rattle.stripes_index.proofs.place_starts.Tie as tie
 
@@ -38,7 +38,7 @@ add_start c =
     let b = c.before.before.before.before in
     let xs = b.args.stripes.now in
     let e : get_or l.stripes (l.s * 2 + 1) 0 ≡ second_at xs l.s =
-    ap (λ (ys : List ℕ). get_or ys (l.s * 2 + 1) 0) l.invariant.0 ∙ start-count (second_at xs) (length xs) b.args.m l.s (omega arith) in
+    ap (λ (ys : List ℕ). get_or ys (l.s * 2 + 1) 0) l.invariant.0 ∙ start_count (second_at xs) (length xs) b.args.m l.s (omega arith) in
     omega (arith, e, b.requires.0.2 l.s (omega arith), sum_bound (second_at xs) 4096 l.s (λ s h. b.requires.0.2 s (omega arith)))
 
 loop-again : tie.Need-loop-preserved invariant-loop decreases-loop
@@ -48,7 +48,7 @@ loop-again c =
     let b = c.before.before.before.before.before in
     let xs = b.args.stripes.now in
     let e : get_or l.stripes (l.s * 2 + 1) 0 ≡ second_at xs l.s =
-    ap (λ (ys : List ℕ). get_or ys (l.s * 2 + 1) 0) l.invariant.0 ∙ start-count (second_at xs) (length xs) b.args.m l.s (omega arith) in (
+    ap (λ (ys : List ℕ). get_or ys (l.s * 2 + 1) 0) l.invariant.0 ∙ start_count (second_at xs) (length xs) b.args.m l.s (omega arith) in (
       ap₂ (λ (ys : List ℕ) (v : ℕ). set (set ys (l.s * 2) v) (l.s * 2 + 1) 0) l.invariant.0 l.invariant.3
           ∙ start_turn (second_at xs) (length xs) b.args.m l.s (omega arith),
       simp length-set l.invariant.1,

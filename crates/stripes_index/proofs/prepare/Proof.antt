@@ -10,7 +10,7 @@ use Rattle.room.specs.Room.{pad}
 use Rattle.stripes_index.specs.Index.{crosses, part_of}
 use Rattle.stripes_index.specs.Inner.States.{second_at, table_at}
 use Rattle.stripes_index.proofs.Turns.{part_length}
-use Rattle.stripes_index.proofs.Starts.{counted, counted_form, counted-entries, counted_fullest, counted-table}
+use Rattle.stripes_index.proofs.Starts.{counted, counted_form, counted_entries, counted_fullest, counted_table}
 use Rattle.stripes_index.proofs.prepare.Statement.{statement}
 use Rattle.stripes_index.proofs.prepare.Tie as tie
 
@@ -39,10 +39,10 @@ returns c =
     let w = k.count-all.ensures in
     let e = k.count-all.auto.1.1.1.1.1.0 in (
       (
-        p.place-starts.ensures.0.0 ∙ counted-entries cross a.n a.m (length a.stripes.now) _ w,
+        p.place-starts.ensures.0.0 ∙ counted_entries cross a.n a.m (length a.stripes.now) _ w,
         p.place-starts.ensures.0.1 ∙ counted_fullest cross a.n a.m (length a.stripes.now) _ w,
       ),
-      p.place-starts.ensures.1 ∙ ap₂ pad e (counted-table cross a.n a.m (length a.stripes.now) _ w),
+      p.place-starts.ensures.1 ∙ ap₂ pad e (counted_table cross a.n a.m (length a.stripes.now) _ w),
     )
 
 pub prepare-spec : {M : Type 1} → statement M

@@ -8,7 +8,7 @@ use Rattle.rings.specs.Ring.{wide, side_at, holds_height}
 use Rattle.rings.specs.RingTest.{test_from}
 use Rattle.stripes_find.specs.Search.{Reading}
 use Rattle.stripes_find.proofs.Parts.{read_broken, read_run}
-use Rattle.stripes_find.proofs.Pouring.{searched-outside, searched-within}
+use Rattle.stripes_find.proofs.Pouring.{searched_outside, searched_within}
 use Rattle.stripes_test.specs.Test.{verdict}
 use Rattle.stripes_test.proofs.test_in.Statement.{statement}
 use Rattle.stripes_test.proofs.test_in.Tie as tie
@@ -20,7 +20,7 @@ returns c =
     let a = o.before.before.before.args in
     c.of.ensures
     ∙ ap (verdict (wide a.ring.now) a.p a.edge)
-    (sym (searched-outside (wide a.ring.now) a.n a.least a.height a.stripes.now a.list.now a.p.y (sym o.is-outside.ensures ∙ c.before.if1.true)))
+    (sym (searched_outside (wide a.ring.now) a.n a.least a.height a.stripes.now a.list.now a.p.y (sym o.is-outside.ensures ∙ c.before.if1.true)))
 
 test-run-requires : tie.Need-test-run-requires
 test-run-requires c κs =
@@ -38,7 +38,7 @@ returns-2 c =
     let p = c.before.part.given.0.0 in
     sym
     (ap (verdict (wide a.ring.now) a.p a.edge)
-    (searched-within (wide a.ring.now) a.n a.least a.height a.stripes.now a.list.now a.p.y (sym s.before.before.is-outside.ensures ∙ s.before.if1.false)
+    (searched_within (wide a.ring.now) a.n a.least a.height a.stripes.now a.list.now a.p.y (sym s.before.before.is-outside.ensures ∙ s.before.if1.false)
     ∙ read_broken a.n (λ i. holds_height (side_at (wide a.ring.now) i) a.p.y) a.least a.height a.stripes.now a.list.now a.p.y p
     (sym s.stripe-part.ensures ∙ c.before.part.given.1)))
 
@@ -51,7 +51,7 @@ returns-3 c =
     c.test-run.ensures
     ∙ sym
     (ap (verdict (wide a.ring.now) a.p a.edge)
-    (searched-within (wide a.ring.now) a.n a.least a.height a.stripes.now a.list.now a.p.y (sym s.before.before.is-outside.ensures ∙ s.before.if1.false)
+    (searched_within (wide a.ring.now) a.n a.least a.height a.stripes.now a.list.now a.p.y (sym s.before.before.is-outside.ensures ∙ s.before.if1.false)
     ∙ r.0))
 
 pub test-in-spec : {M : Type 1} → statement M

@@ -1,5 +1,5 @@
 use Rattle.rings.specs.Ring.{wide}
-use Rattle.tree.proofs.Extremes.{at, greatest-first, greatest_next}
+use Rattle.tree.proofs.Extremes.{at, greatest_first, greatest_next}
 use Rattle.tree.specs.Tree.{greatest}
 use Rattle.floats.specs.Values.{greater_of}
 use lib.Ieee.{Float}
@@ -22,7 +22,7 @@ coordinate-requires : tie.Need-coordinate-requires invariant-loop decreases-loop
 coordinate-requires c κs = search rules
 
 loop-holds : tie.Need-loop-init invariant-loop decreases-loop
-loop-holds c = (omega arith, c.coordinate.ensures ∙ greatest-first (wide c.before.args.coords.now) c.before.args.offset)
+loop-holds c = (omega arith, c.coordinate.ensures ∙ greatest_first (wide c.before.args.coords.now) c.before.args.offset)
 
 add-i : tie.Need-overflow-add-i invariant-loop decreases-loop
 add-i c = search rules

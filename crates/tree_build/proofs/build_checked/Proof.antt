@@ -9,14 +9,14 @@ use Rattle.answers.specs.declared.Refusal.TheVariants.{NoRoom}
 use Rattle.rings.specs.Ring.{wide}
 use Rattle.tree_build.specs.declared.TreeBuilt.TheVariants.{TreeRefused}
 use Rattle.tree_build.specs.Inner.Steps.{Bytes}
-use Rattle.tree_build.proofs.Building.{packed-short, packed-rest, rest-length, zeros_part}
+use Rattle.tree_build.proofs.Building.{packed_short, packed_rest, rest_length, zeros_part}
 use Rattle.tree_build.proofs.build_checked.Statement.{statement}
 use Rattle.tree_build.proofs.build_checked.Tie as tie
 
 returns : tie.Need-returns
 returns c =
     let b = c.before.before.before in
-    packed-short (wide b.args.ring.now) b.args.points b.args.bytes.now b.args.work.now c.if1.true
+    packed_short (wide b.args.ring.now) b.args.points b.args.bytes.now b.args.work.now c.if1.true
     ∙ ap (λ (x : List ℕ). (TreeRefused NoRoom, x, replicate (length b.args.work.now) 0)) (sym b.requires.1)
 
 slice-aggregate-grow-and-pack : tie.Need-slice-aggregate-grow-and-pack
@@ -34,7 +34,7 @@ returns-2 c =
     let k1 = c.before.before.before.before.before in
     let k2 = k1.before.before.before.before in
     let b = k2.before.before.before in
-    packed-rest (wide b.args.ring.now) b.args.points b.args.bytes.now b.args.work.now k2.if1.false _ (rest-length (b.args.points - 1) b.args.work.now)
+    packed_rest (wide b.args.ring.now) b.args.points b.args.bytes.now b.args.work.now k2.if1.false _ (rest_length (b.args.points - 1) b.args.work.now)
     ∙ ap (λ (o : Bytes). (o.0, o.1, replicate (length b.args.work.now) 0)) k1.grow-and-pack.ensures
 
 pub build-checked-spec : {M : Type 1} → statement M

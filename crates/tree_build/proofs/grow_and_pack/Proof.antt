@@ -8,7 +8,7 @@ use Rattle.room.specs.Numbers.{up_to}
 use Rattle.tree.specs.declared.QuadTree.{QuadTree}
 use lib.ListN.{length}
 use Rattle.rings.specs.Ring.{wide}
-use Rattle.tree_build.proofs.Building.{readable_run, grown_full, grown_ready, grown-put}
+use Rattle.tree_build.proofs.Building.{readable_run, grown_full, grown_ready, grown_put}
 use Rattle.tree_build.proofs.grow_and_pack.Statement.{statement}
 use Rattle.tree_build.proofs.grow_and_pack.Tie as tie
 
@@ -55,7 +55,7 @@ returns-2 c =
     let b = k5.before.before.before.before.before in
     let er = k5.number-all.ensures ∙ ap (λ (n : ℕ). up_to (λ i. true) n 0) b.requires.0.3 in
     let eb = ap (λ (q : QuadTree). q.bounds) k4.of-ring.ensures in
-    grown-put (wide b.args.ring.now) b.args.points _ eb _ er _ _ _ _ k3.grow-tree.ensures b.args.bytes.now _ k2.enum-told2.given.1
+    grown_put (wide b.args.ring.now) b.args.points _ eb _ er _ _ _ _ k3.grow-tree.ensures b.args.bytes.now _ k2.enum-told2.given.1
     ∙ k1.pack.ensures
 
 pub grow-and-pack-spec : {M : Type 1} → statement M

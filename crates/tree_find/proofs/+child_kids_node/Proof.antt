@@ -1,6 +1,6 @@
 use Rattle.rings.specs.Ring.{wide}
-use Rattle.tree_find.proofs.Ways.{read_within, child_unread, child-none, child_deep, quad_past, quad_skip, quad_visit, kids_done, kids_more, split_missing, split-leaf, split-kids, split_bad, node_step}
-use Rattle.tree_find.proofs.Pour.{told, then_go, then-stop}
+use Rattle.tree_find.proofs.Ways.{read_within, child_unread, child_none, child_deep, quad_past, quad_skip, quad_visit, kids_done, kids_more, split_missing, split_leaf, split_kids, split_bad, node_step}
+use Rattle.tree_find.proofs.Pour.{told, then_go, then_stop}
 use Rattle.tree_find.specs.Inner.Walks.{step_of, pour, below, children_to}
 use borrow.Author.Tests.{eq-eqb, ne_eqb}
 use lib.ListN.{length}
@@ -75,7 +75,7 @@ child-enum-known-size : (t : ℕ) → child-lts.Need-enum-known-size (child-clai
 child-enum-known-size t c = search rules
 
 child-returns : (t : ℕ) → child-lts.Need-returns (child-claims t) (child-at t) child.Post
-child-returns t c = child-none _ _ _ _ _ _ _ _ _ _ _ _ _ _ _ (sym c.before.before.before.before.read-uvarint.ensures ∙ c.before.before.size.given.1) c.if1.true
+child-returns t c = child_none _ _ _ _ _ _ _ _ _ _ _ _ _ _ _ (sym c.before.before.before.before.read-uvarint.ensures ∙ c.before.before.size.given.1) c.if1.true
 
 child-returns-2 : (t : ℕ) → child-lts.Need-returns-2 (child-claims t) (child-at t) child.Post
 child-returns-2 t c = child_deep _ _ _ _ _ _ _ _ _ _ _ _ _ _ _ (sym c.before.before.before.before.before.read-uvarint.ensures ∙ c.before.before.before.size.given.1) c.before.if1.false (eq-eqb _ _ c.if2.true)
@@ -135,7 +135,7 @@ kids-same-length : (t : ℕ) → kids-lts.Need-same-length (kids-claims t) (kids
 kids-same-length t c = search rules
 
 kids-returns : (t : ℕ) → kids-lts.Need-returns (kids-claims t) (kids-at t) kids.Post kids-Inv-loop kids-μ-loop
-kids-returns t c = c.before.before.before.before.before.before.before.before.loop.invariant.0 ∙ kids_more _ _ _ _ _ _ _ _ _ _ _ _ _ (omega (arith, c.before.before.before.before.before.before.before.loop-test.true)) ∙ then-stop _ _ _ _ (told c.before.before.before.before.before.child.ensures c.before.why.given.1)
+kids-returns t c = c.before.before.before.before.before.before.before.before.loop.invariant.0 ∙ kids_more _ _ _ _ _ _ _ _ _ _ _ _ _ (omega (arith, c.before.before.before.before.before.before.before.loop-test.true)) ∙ then_stop _ _ _ _ (told c.before.before.before.before.before.child.ensures c.before.why.given.1)
 
 kids-enum-known-next : (t : ℕ) → kids-lts.Need-enum-known-next (kids-claims t) (kids-at t) kids.Post kids-Inv-loop kids-μ-loop
 kids-enum-known-next t c = search rules
@@ -186,7 +186,7 @@ node-same-length-2 : (t : ℕ) → node-lts.Need-same-length-2 (node-claims t) (
 node-same-length-2 t c = search rules
 
 node-returns-2 : (t : ℕ) → node-lts.Need-returns-2 (node-claims t) (node_at t) node.Post
-node-returns-2 t c = node_step _ _ _ _ _ _ _ _ _ _ _ ∙ then_go _ _ _ _ _ (told c.before.before.before.before.before.before.before.before.before.own.ensures c.before.before.before.before.before.p.given.1) ∙ told (split-leaf _ _ _ _ _ _ _ _ _ _ _ _ c.before.before.before.if1.false c.before.if2.true) (sym c.finish.ensures)
+node-returns-2 t c = node_step _ _ _ _ _ _ _ _ _ _ _ ∙ then_go _ _ _ _ _ (told c.before.before.before.before.before.before.before.before.before.own.ensures c.before.before.before.before.before.p.given.1) ∙ told (split_leaf _ _ _ _ _ _ _ _ _ _ _ _ c.before.before.before.if1.false c.before.if2.true) (sym c.finish.ensures)
 
 node-add-kids : (t : ℕ) → node-lts.Need-overflow-add-kids (node-claims t) (node_at t) node.Post
 node-add-kids t c = search rules
@@ -198,13 +198,13 @@ node-same-length-3 : (t : ℕ) → node-lts.Need-same-length-3 (node-claims t) (
 node-same-length-3 t c = search rules
 
 node-returns-3 : (t : ℕ) → node-lts.Need-returns-3 (node-claims t) (node_at t) node.Post
-node-returns-3 t c = node_step _ _ _ _ _ _ _ _ _ _ _ ∙ then_go _ _ _ _ _ (told c.before.before.before.before.before.before.before.before.before.before.before.before.before.own.ensures c.before.before.before.before.before.before.before.before.before.p.given.1) ∙ split-kids _ _ _ _ _ _ _ _ _ _ _ _ c.before.before.before.before.before.before.before.if1.false c.before.before.before.before.if3.true ∙ c.before.before.kids.ensures
+node-returns-3 t c = node_step _ _ _ _ _ _ _ _ _ _ _ ∙ then_go _ _ _ _ _ (told c.before.before.before.before.before.before.before.before.before.before.before.before.before.own.ensures c.before.before.before.before.before.before.before.before.before.p.given.1) ∙ split_kids _ _ _ _ _ _ _ _ _ _ _ _ c.before.before.before.before.before.before.before.if1.false c.before.before.before.before.if3.true ∙ c.before.before.kids.ensures
 
 node-same-length-4 : (t : ℕ) → node-lts.Need-same-length-4 (node-claims t) (node_at t) node.Post
 node-same-length-4 t c = search rules
 
 node-returns-4 : (t : ℕ) → node-lts.Need-returns-4 (node-claims t) (node_at t) node.Post
-node-returns-4 t c = node_step _ _ _ _ _ _ _ _ _ _ _ ∙ then-stop _ _ _ _ (told c.before.before.before.before.before.own.ensures c.before.why.given.1)
+node-returns-4 t c = node_step _ _ _ _ _ _ _ _ _ _ _ ∙ then_stop _ _ _ _ (told c.before.before.before.before.before.own.ensures c.before.why.given.1)
 
 node-same-length-5 : (t : ℕ) → node-lts.Need-same-length-5 (node-claims t) (node_at t) node.Post
 node-same-length-5 t c = search rules

@@ -11,7 +11,7 @@ use Rattle.tree_find.proofs.list_in.Statement.{statement}
 use Rattle.tree_find.proofs.list_in.Tie as tie
 use Rattle.tree_find.proofs.list_in.Reads as reads
 use Rattle.tree_find.proofs.list_in.Lts as lts
-use Rattle.room.proofs.Fill.{pad-none}
+use Rattle.room.proofs.Fill.{pad_none}
 use Rattle.room.proofs.zero_fill_u32.Reads as zero-fill-u32-reads
 use Rattle.tree_find.proofs.search.Reads as search-reads
 
@@ -40,7 +40,7 @@ same-length-2 : tie.Need-same-length-2
 same-length-2 c = search rules
 
 returns-2 : tie.Need-returns-2
-returns-2 c = list_cleared _ _ _ _ _ (told (rw c.before.before.before.before.before.before.before.before.before.before.before.before.before.zero-fill-u32.ensures at c.before.before.before.before.before.before.before.before.before.search.ensures) c.before.before.before.before.before.why.given.1) (c.before.before.before.before.before.before.before.before.before.search.auto.1.1.1.1.1.0 ∙ c.before.before.before.before.before.before.before.before.before.before.before.before.before.zero-fill-u32.auto.0) (c.before.before.zero-from-u32.ensures ∙ pad-none _)
+returns-2 c = list_cleared _ _ _ _ _ (told (rw c.before.before.before.before.before.before.before.before.before.before.before.before.before.zero-fill-u32.ensures at c.before.before.before.before.before.before.before.before.before.search.ensures) c.before.before.before.before.before.why.given.1) (c.before.before.before.before.before.before.before.before.before.search.auto.1.1.1.1.1.0 ∙ c.before.before.before.before.before.before.before.before.before.before.before.before.before.zero-fill-u32.auto.0) (c.before.before.zero-from-u32.ensures ∙ pad_none _)
 
 pub list-in-spec : {M : Type 1} → statement M
 list-in-spec =

@@ -1,10 +1,10 @@
 -- `tree_grow::grow`, `grow_split` and `grow_from` meet their contracts: the level falls from a node to its quadrants, and the quadrants come one by one.
 -- Assumes nothing.
 use Rattle.rings.specs.Ring.{wide}
-use Rattle.tree_grow.proofs.Records.{grown_deep, grown-few, grown-below}
-use Rattle.tree_grow.proofs.Crops.{stood, cramped, same-tree, none_grew, sprout-some, full_at_once}
-use Rattle.tree_grow.proofs.Splits.{Splits, own-within, own-counted, own-few, shares_fit, quadrants_ask, split_full, split_grew, split-small, node-fits}
-use Rattle.tree_grow.proofs.Quadrants.{from-none, Next, share_within, share_counted, quadrant_asks, from_full, Front, used_within, used_in, share_in, behind_asks, behind_full, nodes_fit, from_grew, sizes_small}
+use Rattle.tree_grow.proofs.Records.{grown_deep, grown_few, grown_below}
+use Rattle.tree_grow.proofs.Crops.{stood, cramped, same_tree, none_grew, sprout_some, full_at_once}
+use Rattle.tree_grow.proofs.Splits.{Splits, own_within, own_counted, own_few, shares_fit, quadrants_ask, split_full, split_grew, split_small, node_fits}
+use Rattle.tree_grow.proofs.Quadrants.{from_none, Next, share_within, share_counted, quadrant_asks, from_full, Front, used_within, used_in, share_in, behind_asks, behind_full, nodes_fit, from_grew, sizes_small}
 use mathlib.Core.Path.{◌∙◌}
 use Prim.Native.Nat.{ℕ, ◌+◌, ◌*◌, ◌-◌, ◌<◌}
 use lib.ListN.{length}
@@ -78,16 +78,16 @@ grow-returns-2 : (t : ℕ) → grow-lts.Need-returns-2 (grow-claims t) (grow-at 
 grow-returns-2 t c = full_at_once _ _ _ _ _ _ _ c.before.if1.false c.if2.true
 
 grow-returns-3 : (t : ℕ) → grow-lts.Need-returns-3 (grow-claims t) (grow-at t) grow.Post
-grow-returns-3 t c = same-tree (sprout-some _ _ _ _ c.before.before.before.before.before.before.before.if1.false ∙ grown_deep _ _ _ _ c.before.before.before.before.before.if3.true) c.before.before.grow-leaf.ensures
+grow-returns-3 t c = same_tree (sprout_some _ _ _ _ c.before.before.before.before.before.before.before.if1.false ∙ grown_deep _ _ _ _ c.before.before.before.before.before.if3.true) c.before.before.grow-leaf.ensures
 
 grow-returns-4 : (t : ℕ) → grow-lts.Need-returns-4 (grow-claims t) (grow-at t) grow.Post
-grow-returns-4 t c = same-tree (sprout-some _ _ _ _ c.before.before.before.before.before.before.before.before.if1.false ∙ grown-few _ _ _ _ c.before.before.before.before.before.if4.true) c.before.before.grow-leaf2.ensures
+grow-returns-4 t c = same_tree (sprout_some _ _ _ _ c.before.before.before.before.before.before.before.before.if1.false ∙ grown_few _ _ _ _ c.before.before.before.before.before.if4.true) c.before.before.grow-leaf2.ensures
 
 grow-grow-split-requires : (t : ℕ) → grow-lts.Need-grow-split-requires (grow-claims t) (grow-at t) grow.Post
 grow-grow-split-requires t c κs = let s = c.before.before.before.before.before.before.before.before in (omega (arith, s.requires.0, c.before.before.before.if3.false), (omega (arith, s.requires.1.0, c.before.before.before.if3.false), c.before.before.if4.false, s.requires.1.1, s.requires.1.2, c.before.before.before.before.if2.false))
 
 grow-returns-5 : (t : ℕ) → grow-lts.Need-returns-5 (grow-claims t) (grow-at t) grow.Post
-grow-returns-5 t c = same-tree (sprout-some _ _ _ _ c.before.before.before.before.before.before.before.before.before.before.if1.false ∙ grown-below _ _ _ _ c.before.before.before.before.before.before.before.before.if3.false) c.before.before.before.before.grow-split.ensures
+grow-returns-5 t c = same_tree (sprout_some _ _ _ _ c.before.before.before.before.before.before.before.before.before.before.if1.false ∙ grown_below _ _ _ _ c.before.before.before.before.before.before.before.before.if3.false) c.before.before.before.before.grow-split.ensures
 
 -- what is known once the quadrant's share is
 next :
@@ -124,7 +124,7 @@ front t c =
     }
 
 grow-from-returns : (t : ℕ) → grow-from-lts.Need-returns (grow-from-claims t) (grow-from-at t) grow-from.Post
-grow-from-returns t c = let s = c.before.before.before in from-none _ _ _ _ _ _ _ c.if1.true s.requires.1.4
+grow-from-returns t c = let s = c.before.before.before in from_none _ _ _ _ _ _ _ c.if1.true s.requires.1.4
 
 grow-from-slice-relend-prefix-grow : (t : ℕ) → grow-from-lts.Need-slice-relend-prefix-grow (grow-from-claims t) (grow-from-at t) grow-from.Post
 grow-from-slice-relend-prefix-grow t c = share_within (next t c.before)
@@ -191,46 +191,46 @@ grow-split-share-out-requires t c κs = c.before.before.before.requires.1.3
 
 grow-split-slice-reshare-prefix-own-size :
     (t : ℕ) → grow-split-lts.Need-slice-reshare-prefix-own-size (grow-split-claims t) (grow-split-at t) grow-split.Post
-grow-split-slice-reshare-prefix-own-size t c = own-within (splits t c.before.before)
+grow-split-slice-reshare-prefix-own-size t c = own_within (splits t c.before.before)
 
 grow-split-slice-aggregate-own-size : (t : ℕ) → grow-split-lts.Need-slice-aggregate-own-size (grow-split-claims t) (grow-split-at t) grow-split.Post
-grow-split-slice-aggregate-own-size t c = own-counted (splits t c.before.before.before)
+grow-split-slice-aggregate-own-size t c = own_counted (splits t c.before.before.before)
 
 grow-split-own-size-requires : (t : ℕ) → grow-split-lts.Need-own-size-requires (grow-split-claims t) (grow-split-at t) grow-split.Post
-grow-split-own-size-requires t c κs = omega (arith, own-counted (splits t c.before.before.before), own-few (splits t c.before.before.before))
+grow-split-own-size-requires t c κs = omega (arith, own_counted (splits t c.before.before.before), own_few (splits t c.before.before.before))
 
 grow-split-add-bytes : (t : ℕ) → grow-split-lts.Need-overflow-add-bytes (grow-split-claims t) (grow-split-at t) grow-split.Post
-grow-split-add-bytes t c = omega (arith, c.own-size.ensures.1, own-counted (splits t c.before.before.before.before), own-few (splits t c.before.before.before.before))
+grow-split-add-bytes t c = omega (arith, c.own_size_lem.ensures.1, own_counted (splits t c.before.before.before.before), own_few (splits t c.before.before.before.before))
 
 grow-split-mul-grow-from : (t : ℕ) → grow-split-lts.Need-overflow-mul-grow-from (grow-split-claims t) (grow-split-at t) grow-split.Post
-grow-split-mul-grow-from t c = omega (arith, own-few (splits t c.before.before.before.before))
+grow-split-mul-grow-from t c = omega (arith, own_few (splits t c.before.before.before.before))
 
 grow-split-sub-grow-from : (t : ℕ) → grow-split-lts.Need-overflow-sub-grow-from (grow-split-claims t) (grow-split-at t) grow-split.Post
-grow-split-sub-grow-from t c = own-within (splits t c.before.before.before.before)
+grow-split-sub-grow-from t c = own_within (splits t c.before.before.before.before)
 
 grow-split-part-grow-from-start : (t : ℕ) → grow-split-lts.Need-slice-bounds-grow-from-start (grow-split-claims t) (grow-split-at t) grow-split.Post
-grow-split-part-grow-from-start t c = own-within (splits t c.before.before.before.before)
+grow-split-part-grow-from-start t c = own_within (splits t c.before.before.before.before)
 
 grow-split-grow-from-requires : (t : ℕ) → grow-split-lts.Need-grow-from-requires (grow-split-claims t) (grow-split-at t) grow-split.Post
 grow-split-grow-from-requires t c κs = (omega (arith, c.before.before.before.before.before.before.before.before.before.before.requires.0), quadrants_ask (splits t c.before.before.before.before.before.before))
 
 grow-split-add-write-record : (t : ℕ) → grow-split-lts.Need-overflow-add-write-record (grow-split-claims t) (grow-split-at t) grow-split.Post
-grow-split-add-write-record t c = omega (arith, split-small (splits t c.before.before.before.before.before.before.before.before.before.before.before.before.before.before.before) _ c.before.before.before.before.before.before.before.before.before.before.before.own-size.ensures.0 (stood c.before.before.before.before.before.before.before.before.grow-from.ensures c.before.before.nodes.given.1))
+grow-split-add-write-record t c = omega (arith, split_small (splits t c.before.before.before.before.before.before.before.before.before.before.before.before.before.before.before) _ c.before.before.before.before.before.before.before.before.before.before.before.own_size_lem.ensures.0 (stood c.before.before.before.before.before.before.before.before.grow-from.ensures c.before.before.nodes.given.1))
 
 grow-split-write-record-requires : (t : ℕ) → grow-split-lts.Need-write-record-requires (grow-split-claims t) (grow-split-at t) grow-split.Post
-grow-split-write-record-requires t c κs = let l = c.before.before.before.before.before.before.before.before.before.before.before.before.before.before.before.before.before.before.before.args.rest.now in let g = c.before.before.before.before.before.before.before.before in ((omega (arith, c.before.before.before.before.before.before.before.before.before.before.before.before.before.before.before.before.before.before.before.requires.1.4, same_len_mid 6 (length l - 6) l g.grow-from.new.1.1.1.1.1.1.0 g.grow-from.auto.1.1.1.1.1.1.0), split-small (splits t c.before.before.before.before.before.before.before.before.before.before.before.before.before.before.before) _ c.before.before.before.before.before.before.before.before.before.before.before.own-size.ensures.0 (stood c.before.before.before.before.before.before.before.before.grow-from.ensures c.before.before.nodes.given.1)), shares_fit (splits t c.before.before.before.before.before.before.before.before.before.before.before.before.before.before.before))
+grow-split-write-record-requires t c κs = let l = c.before.before.before.before.before.before.before.before.before.before.before.before.before.before.before.before.before.before.before.args.rest.now in let g = c.before.before.before.before.before.before.before.before in ((omega (arith, c.before.before.before.before.before.before.before.before.before.before.before.before.before.before.before.before.before.before.before.requires.1.4, same_len_mid 6 (length l - 6) l g.grow-from.new.1.1.1.1.1.1.0 g.grow-from.auto.1.1.1.1.1.1.0), split_small (splits t c.before.before.before.before.before.before.before.before.before.before.before.before.before.before.before) _ c.before.before.before.before.before.before.before.before.before.before.before.own_size_lem.ensures.0 (stood c.before.before.before.before.before.before.before.before.grow-from.ensures c.before.before.nodes.given.1)), shares_fit (splits t c.before.before.before.before.before.before.before.before.before.before.before.before.before.before.before))
 
 grow-split-add-t29 : (t : ℕ) → grow-split-lts.Need-overflow-add-t29 (grow-split-claims t) (grow-split-at t) grow-split.Post
-grow-split-add-t29 t c = omega (arith, node-fits (splits t c.before.before.before.before.before.before.before.before.before.before.before.before.before.before.before.before.before.before) _ c.before.before.before.before.before.before.before.before.before.before.before.before.before.before.own-size.ensures.0 (stood c.before.before.before.before.before.before.before.before.before.before.before.grow-from.ensures c.before.before.before.before.before.nodes.given.1), c.before.before.before.before.before.before.before.before.before.before.before.before.before.before.before.before.before.before.before.before.before.before.well-formed.1.1.1.1.0.1)
+grow-split-add-t29 t c = omega (arith, node_fits (splits t c.before.before.before.before.before.before.before.before.before.before.before.before.before.before.before.before.before.before) _ c.before.before.before.before.before.before.before.before.before.before.before.before.before.before.own_size_lem.ensures.0 (stood c.before.before.before.before.before.before.before.before.before.before.before.grow-from.ensures c.before.before.before.before.before.nodes.given.1), c.before.before.before.before.before.before.before.before.before.before.before.before.before.before.before.before.before.before.before.before.before.before.well-formed.1.1.1.1.0.1)
 
 grow-split-add-t30 : (t : ℕ) → grow-split-lts.Need-overflow-add-t30 (grow-split-claims t) (grow-split-at t) grow-split.Post
-grow-split-add-t30 t c = omega (arith, split-small (splits t c.before.before.before.before.before.before.before.before.before.before.before.before.before.before.before.before.before.before) _ c.before.before.before.before.before.before.before.before.before.before.before.before.before.before.own-size.ensures.0 (stood c.before.before.before.before.before.before.before.before.before.before.before.grow-from.ensures c.before.before.before.before.before.nodes.given.1))
+grow-split-add-t30 t c = omega (arith, split_small (splits t c.before.before.before.before.before.before.before.before.before.before.before.before.before.before.before.before.before.before) _ c.before.before.before.before.before.before.before.before.before.before.before.before.before.before.own_size_lem.ensures.0 (stood c.before.before.before.before.before.before.before.before.before.before.before.grow-from.ensures c.before.before.before.before.before.nodes.given.1))
 
 grow-split-returns : (t : ℕ) → grow-split-lts.Need-returns (grow-split-claims t) (grow-split-at t) grow-split.Post
 grow-split-returns t c = split_full (splits t c.before.before.before.before.before.before.before.before.before.before.before.before.before) (cramped c.before.before.before.before.before.before.grow-from.ensures c.enum_told.given.1)
 
 grow-split-returns-2 : (t : ℕ) → grow-split-lts.Need-returns-2 (grow-split-claims t) (grow-split-at t) grow-split.Post
-grow-split-returns-2 t c = split_grew (splits t c.before.before.before.before.before.before.before.before.before.before.before.before.before.before.before.before.before.before) _ c.before.before.before.before.before.before.before.before.before.before.before.before.before.before.own-size.ensures.0 (stood c.before.before.before.before.before.before.before.before.before.before.before.grow-from.ensures c.before.before.before.before.before.nodes.given.1) c.before.before.write-record.ensures
+grow-split-returns-2 t c = split_grew (splits t c.before.before.before.before.before.before.before.before.before.before.before.before.before.before.before.before.before.before) _ c.before.before.before.before.before.before.before.before.before.before.before.before.before.before.own_size_lem.ensures.0 (stood c.before.before.before.before.before.before.before.before.before.before.before.grow-from.ensures c.before.before.before.before.before.nodes.given.1) c.before.before.write-record.ensures
 
 pub +grow-grow-from-grow-split-spec : {M : Type 1} → statement M
 +grow-grow-from-grow-split-spec = close μ-grow μ-grow-from μ-grow-split (λ t. grow-lts.spec (grow-claims t)

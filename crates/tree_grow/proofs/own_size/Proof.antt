@@ -3,7 +3,7 @@ use Prim.Native.Nat.{◌+◌, ◌-◌, ◌*◌, ◌≤◌}
 use mathlib.Core.Path.{◌≡◌}
 use lib.ListN.{length, drop}
 use Rattle.tree.specs.Tree.{differences, own_bytes}
-use Rattle.tree_grow.proofs.Own.{encode_ten, own-start, own_more, own_done}
+use Rattle.tree_grow.proofs.Own.{encode_ten, own_start, own_more, own_done}
 use native.Mathlib.Omega.{arith}
 use borrow.Author.Rules.{rules}
 use Rattle.tree_grow.proofs.own_size.Statement.{statement}
@@ -20,7 +20,7 @@ loop-holds : tie.Need-loop-init invariant-loop decreases-loop
 loop-holds c =
     let run = c.before.before.args.run.now in
     let e = c.uvarint-len.ensures in
-    (omega (arith, e, own-start run), omega (arith, e, encode_ten (length run) (omega arith)), omega arith)
+    (omega (arith, e, own_start run), omega (arith, e, encode_ten (length run) (omega arith)), omega arith)
 
 loop-again : tie.Need-loop-preserved invariant-loop decreases-loop
 loop-again c =

@@ -6,7 +6,7 @@ use lib.ListN.{length, length-drop}
 use lib.Seq.{length-take-le}
 use borrow.Author.Rules.{rules}
 use Rattle.tree_pack.specs.Inner.Packing.{node_of, NodeStands}
-use Rattle.tree_pack.proofs.Packing.{part-from, none_written, nothing, nothing_fits, nothing_stand, nothing_room, nothing_written, quadrant, size_fits, kid_room, past_fits, more_stand, more_room, more_fit, quadrant-written, node-long, node_deepest, node-few, leaf_room, leaf-written, splits, head_room, all_stand, all_room, all_fit, split-written, counts_four}
+use Rattle.tree_pack.proofs.Packing.{part_from, none_written, nothing, nothing_fits, nothing_stand, nothing_room, nothing_written, quadrant, size_fits, kid_room, past_fits, more_stand, more_room, more_fit, quadrant_written, node_long, node_deepest, node_few, leaf_room, leaf_written, splits, head_room, all_stand, all_room, all_fit, split_written, counts_four}
 use borrow.Fn.Kinds.{In}
 use borrow.Fn.PlainCycle.{Measures, is, falls, and}
 use Rattle.tree_pack.proofs.kids.Reads as kids
@@ -67,8 +67,8 @@ kids-kids-requires t c κs =
     let k4 = k3.before.before in
     let b = k4.before.before.before.before.before in
     let s = nothing (node_of b.args.left) (NodeStands b.args.left) b.args.counts.now b.args.run.now b.args.rest.now k3.wide.result k4.if1.false k3.wide.ensures k2.if2.true b.requires.1.0 in (
-      omega (arith, b.requires.0, ap length (part-from 1 b.args.counts.now), length-drop 1 b.args.counts.now, k4.if1.false),
-      (nothing_stand _ _ _ _ _ s b.args.out.now b.args.at b.requires.1.1 _ k1.write-uvarint.ensures.1 _ k1.write-uvarint.ensures.0 _ (part-from 1 b.args.counts.now), nothing_room _ _ _ _ _ s b.args.out.now b.args.at b.requires.1.1 _ k1.write-uvarint.ensures.1 _ k1.write-uvarint.ensures.0 _ (part-from 1 b.args.counts.now)),
+      omega (arith, b.requires.0, ap length (part_from 1 b.args.counts.now), length-drop 1 b.args.counts.now, k4.if1.false),
+      (nothing_stand _ _ _ _ _ s b.args.out.now b.args.at b.requires.1.1 _ k1.write-uvarint.ensures.1 _ k1.write-uvarint.ensures.0 _ (part_from 1 b.args.counts.now), nothing_room _ _ _ _ _ s b.args.out.now b.args.at b.requires.1.1 _ k1.write-uvarint.ensures.1 _ k1.write-uvarint.ensures.0 _ (part_from 1 b.args.counts.now)),
     )
 
 kids-returns-2 : (t : ℕ) → kids-lts.Need-returns-2 (kids-claims t) (kids-at t) kids.Post
@@ -80,7 +80,7 @@ kids-returns-2 t c =
     let k5 = k4.before.before in
     let b = k5.before.before.before.before.before in
     let s = nothing (node_of b.args.left) (NodeStands b.args.left) b.args.counts.now b.args.run.now b.args.rest.now k4.wide.result k5.if1.false k4.wide.ensures k3.if2.true b.requires.1.0 in
-    nothing_written _ _ _ _ _ s b.args.out.now b.args.at b.requires.1.1 _ k2.write-uvarint.ensures.1 _ k2.write-uvarint.ensures.0 _ (part-from 1 b.args.counts.now) _ _ k1.kids.ensures.0 k1.kids.ensures.1
+    nothing_written _ _ _ _ _ s b.args.out.now b.args.at b.requires.1.1 _ k2.write-uvarint.ensures.1 _ k2.write-uvarint.ensures.0 _ (part_from 1 b.args.counts.now) _ _ k1.kids.ensures.0 k1.kids.ensures.1
 
 kids-shared-slice-read-wide-2 : (t : ℕ) → kids-lts.Need-shared-slice-read-wide-2 (kids-claims t) (kids-at t) kids.Post
 kids-shared-slice-read-wide-2 t c =
@@ -89,7 +89,7 @@ kids-shared-slice-read-wide-2 t c =
     let k3 = k2.before.before in
     let b = k3.before.before.before.before.before in
     let q = quadrant (node_of b.args.left) (NodeStands b.args.left) b.args.counts.now b.args.run.now b.args.rest.now k2.wide.result k3.if1.false k2.wide.ensures k1.if2.false b.requires.1.0 in
-    omega (arith, node-long b.args.left _ b.args.rest.now q.kid.node)
+    omega (arith, node_long b.args.left _ b.args.rest.now q.kid.node)
 
 kids-write-uvarint-requires-2 : (t : ℕ) → kids-lts.Need-write-uvarint-requires-2 (kids-claims t) (kids-at t) kids.Post
 kids-write-uvarint-requires-2 t c κs =
@@ -203,8 +203,8 @@ kids-kids-requires-2 t c κs =
     let k6 = k5.before.before in
     let b = k6.before.before.before.before.before in
     let q = quadrant (node_of b.args.left) (NodeStands b.args.left) b.args.counts.now b.args.run.now b.args.rest.now k5.wide.result k6.if1.false k5.wide.ensures k4.if2.false b.requires.1.0 in (
-      omega (arith, b.requires.0, ap length (part-from 1 b.args.counts.now), length-drop 1 b.args.counts.now, k6.if1.false),
-      (more_stand _ _ _ _ _ _ q b.args.out.now b.args.at b.requires.1.1 _ (k3.wide2.ensures ∙ q.kid.size) _ k2.write-uvarint2.ensures.1 _ k2.write-uvarint2.ensures.0 _ k1.node.ensures.0 _ k1.node.ensures.1 _ _ _ (part-from 1 b.args.counts.now) (part-from k5.wide.result b.args.run.now) (part-from (k1.node.result * 6) b.args.rest.now), more_room _ _ _ _ _ _ q b.args.out.now b.args.at b.requires.1.1 _ (k3.wide2.ensures ∙ q.kid.size) _ k2.write-uvarint2.ensures.1 _ k2.write-uvarint2.ensures.0 _ k1.node.ensures.0 _ k1.node.ensures.1 _ _ _ (part-from 1 b.args.counts.now) (part-from k5.wide.result b.args.run.now) (part-from (k1.node.result * 6) b.args.rest.now)),
+      omega (arith, b.requires.0, ap length (part_from 1 b.args.counts.now), length-drop 1 b.args.counts.now, k6.if1.false),
+      (more_stand _ _ _ _ _ _ q b.args.out.now b.args.at b.requires.1.1 _ (k3.wide2.ensures ∙ q.kid.size) _ k2.write-uvarint2.ensures.1 _ k2.write-uvarint2.ensures.0 _ k1.node.ensures.0 _ k1.node.ensures.1 _ _ _ (part_from 1 b.args.counts.now) (part_from k5.wide.result b.args.run.now) (part_from (k1.node.result * 6) b.args.rest.now), more_room _ _ _ _ _ _ q b.args.out.now b.args.at b.requires.1.1 _ (k3.wide2.ensures ∙ q.kid.size) _ k2.write-uvarint2.ensures.1 _ k2.write-uvarint2.ensures.0 _ k1.node.ensures.0 _ k1.node.ensures.1 _ _ _ (part_from 1 b.args.counts.now) (part_from k5.wide.result b.args.run.now) (part_from (k1.node.result * 6) b.args.rest.now)),
     )
 
 kids-add-result : (t : ℕ) → kids-lts.Need-overflow-add-result (kids-claims t) (kids-at t) kids.Post
@@ -218,7 +218,7 @@ kids-add-result t c =
     let k7 = k6.before.before in
     let b = k7.before.before.before.before.before in
     let q = quadrant (node_of b.args.left) (NodeStands b.args.left) b.args.counts.now b.args.run.now b.args.rest.now k6.wide.result k7.if1.false k6.wide.ensures k5.if2.false b.requires.1.0 in
-    omega (arith, more_fit _ _ _ _ _ _ q b.args.out.now b.args.at b.requires.1.1 _ (k4.wide2.ensures ∙ q.kid.size) _ k3.write-uvarint2.ensures.1 _ k3.write-uvarint2.ensures.0 _ k2.node.ensures.0 _ k2.node.ensures.1 _ _ _ (part-from 1 b.args.counts.now) (part-from k6.wide.result b.args.run.now) (part-from (k2.node.result * 6) b.args.rest.now) _ k1.kids2.ensures.0)
+    omega (arith, more_fit _ _ _ _ _ _ q b.args.out.now b.args.at b.requires.1.1 _ (k4.wide2.ensures ∙ q.kid.size) _ k3.write-uvarint2.ensures.1 _ k3.write-uvarint2.ensures.0 _ k2.node.ensures.0 _ k2.node.ensures.1 _ _ _ (part_from 1 b.args.counts.now) (part_from k6.wide.result b.args.run.now) (part_from (k2.node.result * 6) b.args.rest.now) _ k1.kids2.ensures.0)
 
 kids-returns-3 : (t : ℕ) → kids-lts.Need-returns-3 (kids-claims t) (kids-at t) kids.Post
 kids-returns-3 t c =
@@ -231,7 +231,7 @@ kids-returns-3 t c =
     let k7 = k6.before.before in
     let b = k7.before.before.before.before.before in
     let q = quadrant (node_of b.args.left) (NodeStands b.args.left) b.args.counts.now b.args.run.now b.args.rest.now k6.wide.result k7.if1.false k6.wide.ensures k5.if2.false b.requires.1.0 in
-    quadrant-written _ _ _ _ _ _ q b.args.out.now b.args.at b.requires.1.1 _ (k4.wide2.ensures ∙ q.kid.size) _ k3.write-uvarint2.ensures.1 _ k3.write-uvarint2.ensures.0 _ k2.node.ensures.0 _ k2.node.ensures.1 _ _ _ (part-from 1 b.args.counts.now) (part-from k6.wide.result b.args.run.now) (part-from (k2.node.result * 6) b.args.rest.now) _ _ k1.kids2.ensures.0 k1.kids2.ensures.1
+    quadrant_written _ _ _ _ _ _ q b.args.out.now b.args.at b.requires.1.1 _ (k4.wide2.ensures ∙ q.kid.size) _ k3.write-uvarint2.ensures.1 _ k3.write-uvarint2.ensures.0 _ k2.node.ensures.0 _ k2.node.ensures.1 _ _ _ (part_from 1 b.args.counts.now) (part_from k6.wide.result b.args.run.now) (part_from (k2.node.result * 6) b.args.rest.now) _ _ k1.kids2.ensures.0 k1.kids2.ensures.1
 
 node-put-head-requires : (t : ℕ) → node-lts.Need-put-head-requires (node-claims t) (node_at t) node.Post
 node-put-head-requires t c κs =
@@ -244,25 +244,25 @@ node-returns t c =
     let k1 = c.before.before in
     let k2 = k1.before.before in
     let b = k2.before.before.before.before in
-    leaf-written _ _ _ (node_deepest b.args.left b.args.run.now b.args.rest.now k2.if1.true) _ _ _ k1.put-head.ensures.1
+    leaf_written _ _ _ (node_deepest b.args.left b.args.run.now b.args.rest.now k2.if1.true) _ _ _ k1.put-head.ensures.1
 
 node-put-head-requires-2 : (t : ℕ) → node-lts.Need-put-head-requires-2 (node-claims t) (node_at t) node.Post
 node-put-head-requires-2 t c κs =
     let k1 = c.before in
     let b = k1.before.before.before.before.before in
-    leaf_room _ _ _ (node-few b.args.left b.args.run.now b.args.rest.now k1.if2.true) b.args.out.now b.args.at b.requires.1.1
+    leaf_room _ _ _ (node_few b.args.left b.args.run.now b.args.rest.now k1.if2.true) b.args.out.now b.args.at b.requires.1.1
 
 node-returns-2 : (t : ℕ) → node-lts.Need-returns-2 (node-claims t) (node_at t) node.Post
 node-returns-2 t c =
     let k1 = c.before.before in
     let k2 = k1.before.before in
     let b = k2.before.before.before.before.before in
-    leaf-written _ _ _ (node-few b.args.left b.args.run.now b.args.rest.now k2.if2.true) _ _ _ k1.put-head2.ensures.1
+    leaf_written _ _ _ (node_few b.args.left b.args.run.now b.args.rest.now k2.if2.true) _ _ _ k1.put-head2.ensures.1
 
 node-shared-slice-read-wide : (t : ℕ) → node-lts.Need-shared-slice-read-wide (node-claims t) (node_at t) node.Post
 node-shared-slice-read-wide t c =
     let b = c.before.before.before.before.before.before in
-    omega (arith, node-long b.args.left b.args.run.now b.args.rest.now b.requires.1.0)
+    omega (arith, node_long b.args.left b.args.run.now b.args.rest.now b.requires.1.0)
 
 node-slice-aggregate-put-head : (t : ℕ) → node-lts.Need-slice-aggregate-put-head (node-claims t) (node_at t) node.Post
 node-slice-aggregate-put-head t c =
@@ -285,7 +285,7 @@ node-put-head-requires-3 t c κs =
 node-part-kids-end : (t : ℕ) → node-lts.Need-slice-bounds-kids-end (node-claims t) (node_at t) node.Post
 node-part-kids-end t c =
     let b = c.before.before.before.before.before.before.before.before.before.before.before.before in
-    omega (arith, node-long b.args.left b.args.run.now b.args.rest.now b.requires.1.0)
+    omega (arith, node_long b.args.left b.args.run.now b.args.rest.now b.requires.1.0)
 
 node-mul-kids : (t : ℕ) → node-lts.Need-overflow-mul-kids (node-claims t) (node_at t) node.Post
 node-mul-kids t c =
@@ -317,12 +317,12 @@ node-part-kids-start-2 t c =
 node-sub-kids-3 : (t : ℕ) → node-lts.Need-overflow-sub-kids-3 (node-claims t) (node_at t) node.Post
 node-sub-kids-3 t c =
     let b = c.before.before.before.before.before.before.before.before.before.before.before.before.before.before in
-    omega (arith, node-long b.args.left b.args.run.now b.args.rest.now b.requires.1.0)
+    omega (arith, node_long b.args.left b.args.run.now b.args.rest.now b.requires.1.0)
 
 node-part-kids-start-3 : (t : ℕ) → node-lts.Need-slice-bounds-kids-start-3 (node-claims t) (node_at t) node.Post
 node-part-kids-start-3 t c =
     let b = c.before.before.before.before.before.before.before.before.before.before.before.before.before.before in
-    omega (arith, node-long b.args.left b.args.run.now b.args.rest.now b.requires.1.0)
+    omega (arith, node_long b.args.left b.args.run.now b.args.rest.now b.requires.1.0)
 
 node-kids-requires : (t : ℕ) → node-lts.Need-kids-requires (node-claims t) (node_at t) node.Post
 node-kids-requires t c κs =
@@ -332,7 +332,7 @@ node-kids-requires t c κs =
     let k4 = k3.before in
     let b = k4.before.before.before.before in
     let s = splits b.args.left b.args.run.now b.args.rest.now k2.wide.result k4.if1.false k3.if2.false k2.wide.ensures b.requires.1.0 in
-    (omega (arith, b.requires.0, counts_four b.args.rest.now, k4.if1.false), (all_stand _ _ _ _ s b.args.out.now b.args.at b.requires.1.1 _ k1.put-head3.ensures.1 _ k1.put-head3.ensures.0 _ _ (part-from k2.wide.result b.args.run.now) (part-from 6 b.args.rest.now), all_room _ _ _ _ s b.args.out.now b.args.at b.requires.1.1 _ k1.put-head3.ensures.1 _ k1.put-head3.ensures.0 _ _ (part-from k2.wide.result b.args.run.now) (part-from 6 b.args.rest.now)))
+    (omega (arith, b.requires.0, counts_four b.args.rest.now, k4.if1.false), (all_stand _ _ _ _ s b.args.out.now b.args.at b.requires.1.1 _ k1.put-head3.ensures.1 _ k1.put-head3.ensures.0 _ _ (part_from k2.wide.result b.args.run.now) (part_from 6 b.args.rest.now), all_room _ _ _ _ s b.args.out.now b.args.at b.requires.1.1 _ k1.put-head3.ensures.1 _ k1.put-head3.ensures.0 _ _ (part_from k2.wide.result b.args.run.now) (part_from 6 b.args.rest.now)))
 
 node-add-result : (t : ℕ) → node-lts.Need-overflow-add-result (node-claims t) (node_at t) node.Post
 node-add-result t c =
@@ -343,7 +343,7 @@ node-add-result t c =
     let k5 = k4.before in
     let b = k5.before.before.before.before in
     let s = splits b.args.left b.args.run.now b.args.rest.now k3.wide.result k5.if1.false k4.if2.false k3.wide.ensures b.requires.1.0 in
-    omega (arith, all_fit _ _ _ _ s b.args.out.now b.args.at b.requires.1.1 _ k2.put-head3.ensures.1 _ k2.put-head3.ensures.0 _ _ (part-from k3.wide.result b.args.run.now) (part-from 6 b.args.rest.now) _ k1.kids.ensures.0)
+    omega (arith, all_fit _ _ _ _ s b.args.out.now b.args.at b.requires.1.1 _ k2.put-head3.ensures.1 _ k2.put-head3.ensures.0 _ _ (part_from k3.wide.result b.args.run.now) (part_from 6 b.args.rest.now) _ k1.kids.ensures.0)
 
 node-returns-3 : (t : ℕ) → node-lts.Need-returns-3 (node-claims t) (node_at t) node.Post
 node-returns-3 t c =
@@ -354,7 +354,7 @@ node-returns-3 t c =
     let k5 = k4.before in
     let b = k5.before.before.before.before in
     let s = splits b.args.left b.args.run.now b.args.rest.now k3.wide.result k5.if1.false k4.if2.false k3.wide.ensures b.requires.1.0 in
-    split-written _ _ _ _ s b.args.out.now b.args.at b.requires.1.1 _ k2.put-head3.ensures.1 _ k2.put-head3.ensures.0 _ _ (part-from k3.wide.result b.args.run.now) (part-from 6 b.args.rest.now) _ _ k1.kids.ensures.0 k1.kids.ensures.1
+    split_written _ _ _ _ s b.args.out.now b.args.at b.requires.1.1 _ k2.put-head3.ensures.1 _ k2.put-head3.ensures.0 _ _ (part_from k3.wide.result b.args.run.now) (part_from 6 b.args.rest.now) _ _ k1.kids.ensures.0 k1.kids.ensures.1
 
 pub +kids-node-spec : {M : Type 1} → statement M
 +kids-node-spec = close μ-kids μ-node (λ t. kids-lts.spec (kids-claims t)

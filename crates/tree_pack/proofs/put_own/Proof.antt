@@ -4,9 +4,9 @@ use mathlib.Core.Path.{ap, ◌∙◌}
 use native.Mathlib.Omega.{arith}
 use lib.ListN.{length}
 use borrow.Author.Rules.{rules}
-use Rattle.room.proofs.Write.{write-length}
+use Rattle.room.proofs.Write.{write_length}
 use Rattle.varint.specs.Leb128.{encode}
-use Rattle.tree_pack.proofs.Own.{Putting, putting, putting_fits, putting_more, putting_done, own-length, own-written}
+use Rattle.tree_pack.proofs.Own.{Putting, putting, putting_fits, putting_more, putting_done, own_length, own_written}
 use Rattle.tree_pack.proofs.put_own.Statement.{statement}
 use Rattle.tree_pack.proofs.put_own.Tie as tie
 
@@ -17,13 +17,13 @@ abbrev decreases-loop : tie.decreases-loop
 decreases-loop own out₀ at p₀ last₀ i₀ out p last i = length own - i
 
 write-uvarint-requires : tie.Need-write-uvarint-requires invariant-loop decreases-loop
-write-uvarint-requires c κs = let b = c.before.before.before in omega (arith, b.requires, own-length b.args.own.now)
+write-uvarint-requires c κs = let b = c.before.before.before in omega (arith, b.requires, own_length b.args.own.now)
 
 loop-holds : tie.Need-loop-init invariant-loop decreases-loop
 loop-holds c =
     let k = c.before.before in
     let b = k.before.before.before.before in
-    putting _ _ _ (omega (arith, k.write-uvarint.ensures.0, b.requires, own-length b.args.own.now, ap length k.write-uvarint.ensures.1, write-length b.args.out.now b.args.at (encode (length b.args.own.now))))
+    putting _ _ _ (omega (arith, k.write-uvarint.ensures.0, b.requires, own_length b.args.own.now, ap length k.write-uvarint.ensures.1, write_length b.args.out.now b.args.at (encode (length b.args.own.now))))
 
 write-uvarint-requires-2 : tie.Need-write-uvarint-requires-2 invariant-loop decreases-loop
 write-uvarint-requires-2 c κs =
@@ -42,7 +42,7 @@ returns c =
     let l = c.before in
     let k = l.before.before.before.write-uvarint in
     let d = putting_done _ _ _ _ _ _ _ l.loop.invariant c.loop-test.false in
-    own-written _ _ _ _ _ _ _ k.ensures.1 k.ensures.0 d.1 d.0
+    own_written _ _ _ _ _ _ _ k.ensures.1 k.ensures.0 d.1 d.0
 
 pub put-own-spec : {M : Type 1} → statement M
 put-own-spec =

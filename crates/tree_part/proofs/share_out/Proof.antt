@@ -6,7 +6,7 @@ use borrow.Author.Rules.{rules}
 use Rattle.rings.specs.Ring.{wide}
 use Rattle.tree_part.specs.declared.Shares.{Shares}
 use Rattle.tree_part.specs.Inner.Halves.{lower, classes, class_counts}
-use Rattle.tree_part.proofs.Classes.{classes-parts, counts_shares, classes_fill}
+use Rattle.tree_part.proofs.Classes.{classes_parts, counts_shares, classes_fill}
 use Rattle.tree_part.proofs.share_out.Statement.{statement}
 use Rattle.tree_part.proofs.share_out.Tie as tie
 
@@ -26,7 +26,7 @@ returns c =
     sym
     (ap₂ (λ (r : Shares) (xs : List ℕ). (r, xs))
     (l.lift-all.ensures.0 ∙ ap class_counts e ∙ counts_shares _ _ _ _ s.requires)
-    (t.settle.ensures ∙ l.lift-all.ensures.1 ∙ ap classes e ∙ classes-parts _ _ _ _ s.requires))
+    (t.settle.ensures ∙ l.lift-all.ensures.1 ∙ ap classes e ∙ classes_parts _ _ _ _ s.requires))
 
 pub share-out-spec : {M : Type 1} → statement M
 share-out-spec =

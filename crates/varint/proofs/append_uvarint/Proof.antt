@@ -6,7 +6,7 @@ use borrow.Author.Rules.{rules}
 use Rattle.answers.specs.declared.Refusal.TheVariants.{NoRoom}
 use Rattle.room.proofs.Pour.{told}
 use Rattle.varint.specs.declared.AppendUvarint.TheVariants.{Appended, Unappended}
-use Rattle.varint.proofs.Writing.{append_past, append-not}
+use Rattle.varint.proofs.Writing.{append_past, append_not}
 use Rattle.varint.proofs.append_uvarint.Statement.{statement}
 use Rattle.varint.proofs.append_uvarint.Tie as tie
 
@@ -19,7 +19,7 @@ returns c = let m = c.before.before.before.before.before in
 returns-2 : tie.Need-returns-2
 returns-2 c = let m = c.before.before.before.before in
     let put = m.before.before.before.before.put-uvarint in
-    append-not _ _ _ _ (told put.ensures m.enum_told.given.1)
+    append_not _ _ _ _ (told put.ensures m.enum_told.given.1)
     ∙ sym (ap (λ (o : List ℕ). (Unappended NoRoom, o)) c.before.before.zero-from-u82.ensures)
 
 pub append-uvarint-spec : {M : Type 1} → statement M

@@ -8,7 +8,7 @@ use native.Mathlib.Omega.{arith}
 use borrow.Author.Rules.{rules}
 use Rattle.room.specs.Room.{write}
 use Rattle.varint.specs.Leb128.{encode}
-use Rattle.varint.proofs.Leb128.{encode-last, encode_more, encode-some}
+use Rattle.varint.proofs.Leb128.{encode_last, encode_more, encode_some}
 use Rattle.varint.proofs.write_uvarint.Statement.{statement}
 use Rattle.varint.proofs.write_uvarint.Tie as tie
 
@@ -25,10 +25,10 @@ loop-holds : tie.Need-loop-init invariant-loop decreases-loop
 loop-holds c = (refl, refl, refl)
 
 slice-write-out : tie.Need-slice-write-out invariant-loop decreases-loop
-slice-write-out c = omega (arith, encode-some c.before.loop.rest)
+slice-write-out c = omega (arith, encode_some c.before.loop.rest)
 
 add-p : tie.Need-overflow-add-p invariant-loop decreases-loop
-add-p c = omega (arith, encode-some c.before.loop.rest)
+add-p c = omega (arith, encode_some c.before.loop.rest)
 
 loop-again : tie.Need-loop-preserved invariant-loop decreases-loop
 unfolding write
@@ -40,10 +40,10 @@ loop-again c = let l = c.before.loop in
     )
 
 slice-write-out-2 : tie.Need-slice-write-out-2 invariant-loop decreases-loop
-slice-write-out-2 c = omega (arith, encode-some c.before.loop.rest)
+slice-write-out-2 c = omega (arith, encode_some c.before.loop.rest)
 
 add-result : tie.Need-overflow-add-result invariant-loop decreases-loop
-add-result c = omega (arith, encode-some c.before.loop.rest)
+add-result c = omega (arith, encode_some c.before.loop.rest)
 
 same_length : tie.Need-same-length invariant-loop decreases-loop
 same_length c = simp length-set c.before.loop.invariant.2
@@ -51,7 +51,7 @@ same_length c = simp length-set c.before.loop.invariant.2
 returns : tie.Need-returns invariant-loop decreases-loop
 unfolding write
 returns c = let l = c.before.loop in
-    let e = encode-last l.rest c.loop-test.false in
+    let e = encode_last l.rest c.loop-test.false in
     (omega (arith, ap length e), sym (ap (λ (vs : List ℕ). write l.out l.p vs) e) ∙ l.invariant.0)
 
 pub write-uvarint-spec : {M : Type 1} → statement M

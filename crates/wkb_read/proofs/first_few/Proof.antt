@@ -3,7 +3,7 @@ use borrow.Author.Rules.{rules}
 use Prim.Native.Nat.{◌-◌}
 use Rattle.wkb_shape.specs.Inner.Laid.{count_of, next_of}
 use Rattle.wkb_read.specs.Judged.{enough}
-use Rattle.wkb_read.proofs.Walk.{Going, going, go_on, go_fault, go_done, count_there, points_there, few_ok, few-not}
+use Rattle.wkb_read.proofs.Walk.{Going, going, go_on, go_fault, go_done, count_there, points_there, few_ok, few_not}
 use Rattle.wkb_read.proofs.first_few.Statement.{statement}
 use Rattle.wkb_read.proofs.first_few.Tie as tie
 
@@ -23,7 +23,7 @@ returns : tie.Need-returns invariant-loop decreases-loop
 unfolding count_of
 returns c =
     let l = c.before.before.before.loop in
-    go_fault _ _ enough _ _ _ l.invariant c.before.before.loop-test.true (few-not _ _ _ _ (rw c.before.u32-at.ensures at c.if1.true))
+    go_fault _ _ enough _ _ _ l.invariant c.before.before.loop-test.true (few_not _ _ _ _ (rw c.before.u32-at.ensures at c.if1.true))
 
 add_at : tie.Need-overflow-add-at invariant-loop decreases-loop
 unfolding count_of

@@ -3,7 +3,7 @@ use mathlib.Core.Path.{sym, ap₂, ◌∙◌}
 use mathlib.Core.Bool.{◌&&◌}
 use mir.Syntax.{w64}
 use Rattle.rings.proofs.Whole.{eq_bits}
-use Rattle.wkb_read.proofs.Walk.{shut_none, shut-some}
+use Rattle.wkb_read.proofs.Walk.{shut_none, shut_some}
 use Rattle.wkb_read.proofs.is_shut.Statement.{statement}
 use Rattle.wkb_read.proofs.is_shut.Tie as tie
 
@@ -20,7 +20,7 @@ returns-2 c =
     (eq_bits w64 x.rounded.result q.rounded3.result (record { sfits = x.rounded.type-inv }) (record { sfits = q.rounded3.type-inv }))
     (eq_bits w64 y.rounded2.result c.rounded4.result (record { sfits = y.rounded2.type-inv }) (record { sfits = c.rounded4.type-inv }))
     ∙ rw (x.rounded.ensures, y.rounded2.ensures, q.rounded3.ensures, c.rounded4.ensures)
-    (sym (shut-some a.bytes.now a.order a.scale a.n a.start x.before.if1.false))
+    (sym (shut_some a.bytes.now a.order a.scale a.n a.start x.before.if1.false))
 
 pub is-shut-spec : {M : Type 1} → statement M
 is-shut-spec =

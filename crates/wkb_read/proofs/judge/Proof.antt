@@ -1,6 +1,6 @@
 use borrow.Author.Rules.{rules}
 use borrow.Author.Tests.{le-ltb, lt-ltb}
-use Rattle.wkb_shape.proofs.Laid.{rings-length}
+use Rattle.wkb_shape.proofs.Laid.{rings_length}
 use Rattle.wkb_read.specs.Judged.{judged, each_ring}
 use Rattle.wkb_read.proofs.judge.Statement.{statement}
 use Rattle.wkb_read.proofs.judge.Tie as tie
@@ -10,7 +10,7 @@ unfolding judged each_ring
 returns c =
     let a = c.before.before.args in
     simp (
-      rings-length a.bytes.now a.order a.n 9,
+      rings_length a.bytes.now a.order a.n 9,
       lt-ltb _ _ c.if1.true,
     )
 
@@ -19,7 +19,7 @@ unfolding judged each_ring
 returns-2 c =
     let a = c.before.before.before.before.args in
     simp (
-      rings-length a.bytes.now a.order a.n 9,
+      rings_length a.bytes.now a.order a.n 9,
       ← c.before.first-few.ensures,
       le-ltb _ _ c.before.before.if1.false,
       lt-ltb _ _ c.if2.true,
@@ -30,7 +30,7 @@ unfolding judged each_ring
 returns-3 c =
     let a = c.before.before.before.before.before.args in
     simp (
-      rings-length a.bytes.now a.order a.n 9,
+      rings_length a.bytes.now a.order a.n 9,
       ← c.before.before.first-few.ensures,
       le-ltb _ _ c.before.before.before.if1.false,
       le-ltb _ _ c.before.if2.false,
@@ -42,7 +42,7 @@ unfolding judged each_ring
 returns-4 c =
     let a = c.before.before.before.before.before.before.before.args in
     simp (
-      rings-length a.bytes.now a.order a.n 9,
+      rings_length a.bytes.now a.order a.n 9,
       ← c.before.before.before.before.first-few.ensures,
       ← c.before.first-many.ensures,
       le-ltb _ _ c.before.before.before.before.before.if1.false,
@@ -56,7 +56,7 @@ unfolding judged each_ring
 returns-5 c =
     let a = c.before.before.before.before.before.before.before.before.before.args in
     simp (
-      rings-length a.bytes.now a.order a.n 9,
+      rings_length a.bytes.now a.order a.n 9,
       ← c.before.before.before.before.before.before.first-few.ensures,
       ← c.before.before.before.first-many.ensures,
       ← c.before.first-unstored.ensures,
@@ -72,7 +72,7 @@ unfolding judged each_ring
 returns-6 c =
     let a = c.before.before.before.before.before.before.before.before.before.before.before.args in
     simp (
-      rings-length a.bytes.now a.order a.n 9,
+      rings_length a.bytes.now a.order a.n 9,
       ← c.before.before.before.before.before.before.before.before.first-few.ensures,
       ← c.before.before.before.before.before.first-many.ensures,
       ← c.before.before.before.first-unstored.ensures,
@@ -90,7 +90,7 @@ unfolding judged each_ring
 returns-7 c =
     let a = c.before.before.before.before.before.before.before.before.before.before.before.args in
     simp (
-      rings-length a.bytes.now a.order a.n 9,
+      rings_length a.bytes.now a.order a.n 9,
       ← c.before.before.before.before.before.before.before.before.first-few.ensures,
       ← c.before.before.before.before.before.first-many.ensures,
       ← c.before.before.before.first-unstored.ensures,

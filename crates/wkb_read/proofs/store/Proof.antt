@@ -6,14 +6,14 @@ use mathlib.Core.List.{List}
 use lib.ListN.{length}
 use lib.IntN.{ℤ}
 use Rattle.answers.specs.declared.Refusal.TheVariants.{NoRoom}
-use Rattle.room.proofs.Fill.{pad-none}
-use Rattle.outline_record.proofs.Pad.{pad-none as padZ-none, written_padded as written-paddedZ}
+use Rattle.room.proofs.Fill.{pad_none}
+use Rattle.outline_record.proofs.Pad.{pad_none as padZ-none, written_padded as written-paddedZ}
 use Rattle.wkb_shape.specs.declared.WkbRefusal.TheVariants.{Plain}
 use Rattle.wkb_shape.specs.Inner.Laid.{rings_of}
 use Rattle.wkb_read.specs.declared.ReadWkb.TheVariants.{Read, Unread}
 use Rattle.wkb_read.specs.Stored.{sizes_of, coords_of}
 use Rattle.wkb_read.proofs.Put.{sizes_count}
-use Rattle.wkb_read.proofs.Rules.{stored_short, stored-fits, rooms_fit, numbers_are, written_padded}
+use Rattle.wkb_read.proofs.Rules.{stored_short, stored_fits, rooms_fit, numbers_are, written_padded}
 use Rattle.wkb_read.proofs.store.Statement.{statement}
 use Rattle.wkb_read.proofs.store.Tie as tie
 
@@ -40,7 +40,7 @@ returns c =
     stored_short a.sizes.now a.coords.now a.scale (rings_of a.bytes.now a.order a.n 9) a.n ((length a.bytes.now - 9 - 4 * a.n) / 8)
     (sizes_count a.bytes.now a.order a.n) many.0 c.before.before.before.before.before.before.before.if1.true
     ∙ ap₂ (λ (x : List ℕ) (y : List ℤ). (Unread (Plain NoRoom), x, y))
-    (sym (c.before.before.before.before.before.zero-from-u32.ensures ∙ pad-none (length a.sizes.now))) (sym (c.before.zero-from.ensures ∙ padZ-none a.coords.now))
+    (sym (c.before.before.before.before.before.zero-from-u32.ensures ∙ pad_none (length a.sizes.now))) (sym (c.before.zero-from.ensures ∙ padZ-none a.coords.now))
 
 put-sizes-requires : tie.Need-put-sizes-requires
 put-sizes-requires c κs =
@@ -65,7 +65,7 @@ returns-2 c =
     let test = c.before.before.before.before.before.before.before.before.before.before.before.before.before.before.if1.false in
     let fit = rooms_fit (length a.sizes.now) a.n (length a.coords.now) m test in
     let count = sizes_count a.bytes.now a.order a.n in
-    stored-fits a.sizes.now a.coords.now a.scale (rings_of a.bytes.now a.order a.n 9) a.n m count many.0 test
+    stored_fits a.sizes.now a.coords.now a.scale (rings_of a.bytes.now a.order a.n 9) a.n m count many.0 test
     ∙ ap₂ (λ (x : List ℕ) (y : List ℤ). (Read a.n m, x, y))
     (sym (c.before.before.before.before.before.zero-from-u322.ensures ∙ written_padded a.sizes.now _ (sizes_of (rings_of a.bytes.now a.order a.n 9)) a.n c.before.before.before.before.before.before.before.before.before.before.before.before.put-sizes.ensures count fit.0))
     (sym (c.before.zero-from2.ensures ∙ written-paddedZ a.coords.now _ (coords_of a.scale (rings_of a.bytes.now a.order a.n 9)) m c.before.before.before.before.before.before.before.before.put-coords.ensures many.0 fit.1))

@@ -1,6 +1,6 @@
 use borrow.Author.Rules.{rules}
 use mathlib.Core.Path.{sym, ◌∙◌}
-use Rattle.wkb_shape.proofs.Begins.{order-within, type_within, header_unordered, header_stopped, header-counted}
+use Rattle.wkb_shape.proofs.Begins.{order_within, type_within, header_unordered, header_stopped, header_counted}
 use Rattle.wkb_shape.proofs.header_at.Statement.{statement}
 use Rattle.wkb_shape.proofs.header_at.Tie as tie
 
@@ -8,7 +8,7 @@ past-type-requires : tie.Need-past-type-requires
 past-type-requires c κs =
     let b = c.before.before.before in
     let a = b.before.before.args in
-    order-within a.bytes.now a.at _ _ (sym b.order-at.ensures ∙ c.before.ordered2.given.1)
+    order_within a.bytes.now a.at _ _ (sym b.order-at.ensures ∙ c.before.ordered2.given.1)
 
 count-at-requires : tie.Need-count-at-requires
 count-at-requires c κs =
@@ -35,7 +35,7 @@ returns-3 c =
     let d = b.before.before in
     let a = d.before.before.before.before.args in
     c.count_at.ensures
-    ∙ header-counted a.bytes.now a.at _ _ _ (sym d.before.before.order-at.ensures ∙ d.ordered2.given.1) (sym b.past-type.ensures ∙ c.before.before.typed2.given.1)
+    ∙ header_counted a.bytes.now a.at _ _ _ (sym d.before.before.order-at.ensures ∙ d.ordered2.given.1) (sym b.past-type.ensures ∙ c.before.before.typed2.given.1)
 
 pub header-at-spec : {M : Type 1} → statement M
 header-at-spec =

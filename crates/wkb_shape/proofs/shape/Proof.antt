@@ -1,6 +1,6 @@
 use borrow.Author.Rules.{rules}
 use mathlib.Core.Path.{sym, ◌∙◌}
-use Rattle.wkb_shape.proofs.Begins.{header-within, shape_unheaded, shape_stopped, shape_over, shape_whole}
+use Rattle.wkb_shape.proofs.Begins.{header_within, shape_unheaded, shape_stopped, shape_over, shape_whole}
 use Rattle.wkb_shape.proofs.shape.Statement.{statement}
 use Rattle.wkb_shape.proofs.shape.Tie as tie
 
@@ -8,7 +8,7 @@ past-rings-requires : tie.Need-past-rings-requires
 past-rings-requires c κs =
     let b = c.before.before.before in
     let a = b.before.before.args in
-    (header-within a.bytes.now 0 _ _ _ (sym b.header_at.ensures ∙ c.before.begun2.given.1)).0
+    (header_within a.bytes.now 0 _ _ _ (sym b.header_at.ensures ∙ c.before.begun2.given.1)).0
 
 returns : tie.Need-returns
 returns c =

@@ -1,5 +1,5 @@
 use mathlib.Core.Path.{sym, ◌∙◌}
-use Rattle.capi.proofs.Striped.{refused_zero, refused-kept}
+use Rattle.capi.proofs.Striped.{refused_zero, refused_kept}
 use borrow.Author.Rules.{rules}
 use Rattle.capi.proofs.build_stripes.tell_refused.Statement.{statement}
 use Rattle.capi.proofs.build_stripes.tell_refused.Tie as tie
@@ -16,7 +16,7 @@ returns c =
 returns-2 : tie.Need-returns-2
 returns-2 c =
     let a = c.before.before.before.before.before.before.args in
-    refused-kept a.why a.span.now a.stats.now
+    refused_kept a.why a.span.now a.stats.now
     (sym c.before.before.before.zeroes-rooms.ensures ∙ c.before.before.if1.false)
     c.tell-refusal2.ensures
 

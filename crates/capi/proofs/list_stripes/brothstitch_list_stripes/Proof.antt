@@ -5,7 +5,7 @@ use Rattle.capi.proofs.list_stripes.brothstitch_list_stripes.Statement.{statemen
 use Rattle.capi.proofs.list_stripes.brothstitch_list_stripes.Tie as tie
 
 returns : tie.Need-returns
-returns c = telling stripes_told c.before.before.before.before.stripes-list.ensures c.tell-listed.ensures
+returns c = telling stripes_told c.before.before.before.before.stripes_list.ensures c.tell-listed.ensures
 
 pub brothstitch-list-stripes-spec : {M : Type 1} → statement M
 brothstitch-list-stripes-spec =

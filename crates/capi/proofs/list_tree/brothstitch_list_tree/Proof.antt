@@ -5,7 +5,7 @@ use Rattle.capi.proofs.list_tree.brothstitch_list_tree.Statement.{statement}
 use Rattle.capi.proofs.list_tree.brothstitch_list_tree.Tie as tie
 
 returns : tie.Need-returns
-returns c = telling tree_told c.before.before.before.before.tree-list.ensures c.tell-listed.ensures
+returns c = telling tree_told c.before.before.before.before.tree_list_lem.ensures c.tell-listed.ensures
 
 pub brothstitch-list-tree-spec : {M : Type 1} → statement M
 brothstitch-list-tree-spec =
