@@ -7,7 +7,7 @@ ghost use Rattle.answers.specs.Answers.{said};
 ghost use Rattle.answers.specs.Refusals.{number_of, place_of, zeroes_rooms};
 
 // A refusal whose place the table gives as 0 always carries none.
-#[derive(Drop)]
+#[derive(Clone, Copy)]
 pub enum Refusal {
     TooFew(usize),
     TooMany(usize),
@@ -76,7 +76,7 @@ impl Refusal {
 }
 
 // What an inside question answers.
-#[derive(Drop)]
+#[derive(Clone, Copy)]
 pub enum Answer {
     Yes,
     No,

@@ -11,42 +11,42 @@ ghost use Rattle.boxes.specs.Quads.{box, chosen, quad_bounds};
 
 use floats::{greater, lesser};
 
-#[derive(Drop)]
+#[derive(Clone, Copy)]
 pub struct Point {
     pub x: f64,
     pub y: f64,
 }
 
 // A stored point.
-#[derive(Drop)]
+#[derive(Clone, Copy)]
 pub struct I32Point {
     pub x: i32,
     pub y: i32,
 }
 
 // A box: its lowest and its highest corner.
-#[derive(Drop)]
+#[derive(Clone, Copy)]
 pub struct Rect {
     pub min: Point,
     pub max: Point,
 }
 
 // A side of a box, from corner to corner.
-#[derive(Drop)]
+#[derive(Clone, Copy)]
 pub struct Side {
     pub a: Point,
     pub b: Point,
 }
 
 // A stored segment, from point to point.
-#[derive(Drop)]
+#[derive(Clone, Copy)]
 pub struct Segment {
     pub a: I32Point,
     pub b: I32Point,
 }
 
 // Where a segment goes when its node splits.
-#[derive(Drop)]
+#[derive(Clone, Copy)]
 pub enum Chosen {
     Quadrant(usize),
     Stays,

@@ -14,7 +14,7 @@ use rays::{RaycastResult, cast};
 use rings::{Checked, check_ring, holds_height};
 
 // What is known so far: whether the point is on a segment, and else the answer.
-#[derive(Drop)]
+#[derive(Clone, Copy)]
 pub struct Seen {
     pub on: bool,
     pub inside: bool,

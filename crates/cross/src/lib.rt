@@ -6,7 +6,7 @@ ghost use Rattle.cross.specs.Cross.{cross, sign_of};
 ghost use Rattle.cross.specs.Inner.Signed.{value_of};
 
 // The sign of a whole number: below zero, zero, above zero.
-#[derive(Drop)]
+#[derive(Clone, Copy)]
 pub enum Sign {
     Below,
     Zero,
@@ -14,7 +14,7 @@ pub enum Sign {
 }
 
 // A whole number as its sign and its unsigned size. A size of 0 may stand with either sign.
-#[derive(Drop)]
+#[derive(Clone, Copy)]
 struct Signed {
     below: bool,
     size: u64,

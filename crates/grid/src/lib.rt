@@ -11,7 +11,7 @@ use cross::{Sign, cross_sign};
 use rings::{Checked, check_ring, segment_at};
 
 // What the test says of one segment.
-#[derive(Drop)]
+#[derive(Clone, Copy)]
 pub enum GridResult {
     OnSegment,
     Flips,

@@ -20,7 +20,7 @@ use tree::QuadTree;
 use whole::round;
 
 // A scaled query: outside, a float place, or a whole place.
-#[derive(Drop)]
+#[derive(Clone, Copy)]
 pub enum Query {
     Outside,
     Float(f64, f64),

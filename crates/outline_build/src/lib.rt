@@ -19,21 +19,21 @@ use room::{zero_fill_u8, zero_fill_u32};
 use stripes_build::StripesStats;
 
 // What building answers: how many rings there are, or a refusal.
-#[derive(Drop)]
+#[derive(Clone, Copy)]
 pub enum Built {
     Indexed(usize),
     Unbuilt(Refusal),
 }
 
 // What a ring's stripes hold, where it has them.
-#[derive(Drop)]
+#[derive(Clone, Copy)]
 pub enum YStripes {
     SomeStripes(StripesStats),
     NoStripes,
 }
 
 // Statistics of a ring's build.
-#[derive(Drop)]
+#[derive(Clone, Copy)]
 pub struct RingBuildStats {
     pub segment_count: usize,
     pub below_threshold: bool,

@@ -13,14 +13,14 @@ use floats::is_finite;
 use rings::{Checked, is_closed};
 
 // How a scaled query is asked: as floats, or rounded to whole numbers.
-#[derive(Drop)]
+#[derive(Clone, Copy)]
 pub enum RaycastMode {
     Float,
     Integer,
 }
 
 // The rings' points are lent as slices of numbers, so the type holds what is left of an outline, and the limits.
-#[derive(Drop)]
+#[derive(Clone, Copy)]
 pub struct Outline {
     pub scale: f64,
     pub mode: RaycastMode,

@@ -18,7 +18,7 @@ use stripes_build::{StripesBuilt, build_stripes};
 use tree_build::{TreeBuilt, build_tree};
 
 // Which indexes are asked for, and how many segments a ring needs to get them.
-#[derive(Drop)]
+#[derive(Clone, Copy)]
 pub struct BuildOptions {
     pub enable_y_stripes: bool,
     pub enable_compressed_quad: bool,
@@ -62,7 +62,7 @@ impl BuildOptions {
 }
 
 // Where the next ring's part starts in each room that all rings share.
-#[derive(Drop)]
+#[derive(Clone, Copy)]
 pub struct Places {
     pub stripes: usize,
     pub list: usize,
@@ -71,7 +71,7 @@ pub struct Places {
 
 // What one ring got: 1 for stripes and 2 for a tree, the stripes' least y and height, and how many
 // stripes, entries, entries in the fullest stripe and bytes.
-#[derive(Drop)]
+#[derive(Clone, Copy)]
 pub struct Gain {
     pub kinds: usize,
     pub least: f64,
@@ -83,7 +83,7 @@ pub struct Gain {
 }
 
 // The same, or that the room is short.
-#[derive(Drop)]
+#[derive(Clone, Copy)]
 pub enum Gained {
     Parts(Gain),
     NoPlace,

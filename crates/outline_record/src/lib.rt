@@ -16,7 +16,7 @@ use outline_check::{Outline, check_outline};
 use rings::Checked;
 
 // What making a record answers: how many rings it holds, or a refusal.
-#[derive(Drop)]
+#[derive(Clone, Copy)]
 pub enum Made {
     Rings(usize),
     Unmade(Refusal),

@@ -2,7 +2,7 @@
 #![tactic(auto)]
 
 // A row is lent as a part of the table, so the type holds nothing but the places in a row.
-#[derive(Drop)]
+#[derive(Clone, Copy)]
 pub struct Row;
 
 impl Row {

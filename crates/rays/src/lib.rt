@@ -11,7 +11,7 @@ ghost use Rattle.rays.specs.declared.RaycastResult.TheVariants.{Inside, Neither}
 use boxes::{Point, Segment};
 
 // What `raycast` answers.
-#[derive(Drop)]
+#[derive(Clone, Copy)]
 pub enum RaycastResult {
     On,
     Inside,

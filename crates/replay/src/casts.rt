@@ -8,7 +8,7 @@ use lines::signed::{coordinate, float_of, is_coordinate, signed};
 use rays::{RaycastResult, raycast};
 
 // Two floats and where they end.
-#[derive(Drop)]
+#[derive(Clone, Copy)]
 struct PointField {
     at: Point,
     last: Field,
@@ -27,7 +27,7 @@ fn point(line: &[u8], before: Field) -> PointField {
 }
 
 // Four floats and where they end.
-#[derive(Drop)]
+#[derive(Clone, Copy)]
 struct RectField {
     at: Rect,
     last: Field,
@@ -46,7 +46,7 @@ fn rect(line: &[u8], before: Field) -> RectField {
 }
 
 // Two coordinates and where they end.
-#[derive(Drop)]
+#[derive(Clone, Copy)]
 struct EndField {
     at: I32Point,
     last: Field,

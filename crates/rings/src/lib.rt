@@ -13,7 +13,7 @@ use floats::is_finite;
 use room::{zero_fill_u32, zero_from_u32};
 
 // A ring's points are lent as a slice of numbers, so the type holds nothing but the limits of a ring.
-#[derive(Drop)]
+#[derive(Clone, Copy)]
 pub struct Ring;
 
 impl Ring {
@@ -23,14 +23,14 @@ impl Ring {
 }
 
 // What the checks on a ring find.
-#[derive(Drop)]
+#[derive(Clone, Copy)]
 pub enum Checked {
     Sound,
     Faulty(Refusal),
 }
 
 // What a listing call answers: how many numbers it listed, or a refusal.
-#[derive(Drop)]
+#[derive(Clone, Copy)]
 pub enum Listed {
     Count(usize),
     Unlisted(Refusal),

@@ -8,7 +8,7 @@ ghost use Rattle.root.specs.Computed.{sqrt_of};
 ghost use Rattle.root.specs.Inner.Digits.{Rooted, ScaledTo, RootBits};
 
 // A whole root and what is left: the number is q * q + rem.
-#[derive(Drop)]
+#[derive(Clone, Copy)]
 struct Split {
     q: u64,
     rem: u64,
@@ -56,7 +56,7 @@ fn whole_root(m: u64) -> Split
 const LEAD: u64 = 0x10_0000_0000_0000;
 
 // A positive float as digits * 4 ^ field / 2 ^ 2098, with 53 or 54 binary digits.
-#[derive(Drop)]
+#[derive(Clone, Copy)]
 struct Scaled {
     digits: u64,
     field: u64,

@@ -17,7 +17,7 @@ use stripes_index::{greatest_y, high_end_lem, least_y, low_end, prepare};
 use stripes_place::stripe_of;
 
 // What was built: how many segments and stripes, entries in all, and entries in the fullest stripe.
-#[derive(Drop)]
+#[derive(Clone, Copy)]
 pub struct StripesStats {
     pub segments: usize,
     pub stripes: usize,
@@ -31,7 +31,7 @@ impl StripesStats {
 }
 
 // The index's least y and height with its statistics; no index, under the threshold; or a refusal.
-#[derive(Drop)]
+#[derive(Clone, Copy)]
 pub enum StripesBuilt {
     Striped(f64, f64, StripesStats),
     Unstriped,

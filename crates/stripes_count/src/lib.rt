@@ -9,7 +9,7 @@ use rings::coordinate;
 use whole::floor_within;
 
 // A segment's ends as floats.
-#[derive(Drop)]
+#[derive(Clone, Copy)]
 struct Ends {
     ax: f64,
     ay: f64,

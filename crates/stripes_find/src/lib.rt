@@ -14,14 +14,14 @@ use room::{wide, zero_fill_u32};
 use stripes_place::stripe_of;
 
 // How many numbers were listed, or a refusal.
-#[derive(Drop)]
+#[derive(Clone, Copy)]
 pub enum StripesListed {
     StripesFound(usize),
     StripesUnlisted(Refusal),
 }
 
 // A part of the list, from a place up to another, or the place of damage.
-#[derive(Drop)]
+#[derive(Clone, Copy)]
 pub enum Part {
     Run(usize, usize),
     Broken(usize),

@@ -14,7 +14,7 @@ use room::wide;
 use stripes_place::stripe_of;
 
 // Entries in all, and in the fullest stripe.
-#[derive(Drop)]
+#[derive(Clone, Copy)]
 pub struct Totals {
     pub entries: usize,
     pub fullest: usize,

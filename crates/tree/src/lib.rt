@@ -10,7 +10,7 @@ use floats::{greater, lesser};
 use rings::coordinate;
 
 // What a tree is read and built by, besides its bytes and its ring: the ring's box, and how many segments the ring has.
-#[derive(Drop)]
+#[derive(Clone, Copy)]
 pub struct QuadTree {
     pub bounds: Rect,
     pub segments: usize,

@@ -17,7 +17,7 @@ use tree_grow::{Grown, grow_tree};
 use tree_pack::pack_tree;
 
 // How many bytes the tree takes; no tree, under the threshold; or a refusal.
-#[derive(Drop)]
+#[derive(Clone, Copy)]
 pub enum TreeBuilt {
     Packed(usize),
     Unpacked,

@@ -17,7 +17,7 @@ use tree::QuadTree;
 use varint::{ReadUvarint, read_uvarint};
 
 // What a search does with the segments that it finds.
-#[derive(Drop)]
+#[derive(Clone, Copy)]
 pub enum Task {
     // Their numbers go to lent room.
     Listing,
@@ -26,7 +26,7 @@ pub enum Task {
 }
 
 // What came of the segments found so far: how many were listed; whether the point was on one, and how the answer stands.
-#[derive(Drop)]
+#[derive(Clone, Copy)]
 pub struct Seen {
     pub count: usize,
     pub on: bool,
@@ -34,21 +34,21 @@ pub struct Seen {
 }
 
 // What came of one more.
-#[derive(Drop)]
+#[derive(Clone, Copy)]
 pub enum Taken {
     Kept(Seen),
     Overfull,
 }
 
 // How far a search came: the next place and what was seen, or why it stopped.
-#[derive(Drop)]
+#[derive(Clone, Copy)]
 pub enum Walk {
     Reached(usize, Seen),
     Stopped(Refusal),
 }
 
 // What a list call answers: how many numbers it listed, or why none.
-#[derive(Drop)]
+#[derive(Clone, Copy)]
 pub enum TreeListed {
     TreeFound(usize),
     TreeUnlisted(Refusal),

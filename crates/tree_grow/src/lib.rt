@@ -16,14 +16,14 @@ use tree_part::{Shares, share_out};
 use varint::uvarint_len;
 
 // How trees that stand side by side came out: their nodes and their bytes, or that their records do not fit.
-#[derive(Drop)]
+#[derive(Clone, Copy)]
 pub enum Growth {
     Stands(usize, usize),
     Cramped,
 }
 
 // How a whole tree came out: its nodes, or that their records do not fit.
-#[derive(Drop)]
+#[derive(Clone, Copy)]
 pub enum Grown {
     Nodes(usize),
     Full,

@@ -11,7 +11,7 @@ use boxes::{Chosen, Rect, choose_quad};
 use rings::segment_at;
 
 // How many of the segments stay, and how many go to each quadrant.
-#[derive(Drop)]
+#[derive(Clone, Copy)]
 pub struct Shares {
     pub own: usize,
     pub nw: usize,

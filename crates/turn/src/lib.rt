@@ -9,7 +9,7 @@ use answers::Refusal;
 use rings::{Checked, check_ring};
 
 // The three turns.
-#[derive(Drop)]
+#[derive(Clone, Copy)]
 pub enum Turning {
     Anticlockwise,
     Clockwise,
@@ -30,14 +30,14 @@ impl Turning {
 }
 
 // What the call answers: a turn, or a refusal.
-#[derive(Drop)]
+#[derive(Clone, Copy)]
 pub enum Turned {
     Turns(Turning),
     Unturned(Refusal),
 }
 
 // A sum of products, in two halves of 32 bits: 4,096 products of two coordinates outgrow 64 bits.
-#[derive(Drop)]
+#[derive(Clone, Copy)]
 struct Halves {
     high: u64,
     low: u64,

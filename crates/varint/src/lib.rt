@@ -14,14 +14,14 @@ use answers::Refusal;
 use room::{Put, zero_from_u8};
 
 // The number that was read and the place past it, or why there is none.
-#[derive(Drop)]
+#[derive(Clone, Copy)]
 pub enum ReadUvarint {
     Value(u64, usize),
     Unread(Refusal),
 }
 
 // The place past the number that was written, or why it was not.
-#[derive(Drop)]
+#[derive(Clone, Copy)]
 pub enum AppendUvarint {
     Appended(usize),
     Unappended(Refusal),

@@ -7,7 +7,7 @@ ghost use Rattle.std.specs.Float.Ieee.{of_bits};
 ghost use Rattle.wkb_fields.specs.Fields.{little_end, field_of};
 
 // XDR, whose first byte is the most significant one, and NDR, whose first is the least.
-#[derive(Drop)]
+#[derive(Clone, Copy)]
 pub enum ByteOrder {
     Big,
     Little,

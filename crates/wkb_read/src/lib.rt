@@ -18,14 +18,14 @@ use wkb_fields::{ByteOrder, double_at, u32_at};
 use wkb_shape::{Shaped, WkbRefusal, shape};
 
 // What the rules find of a shape.
-#[derive(Drop)]
+#[derive(Clone, Copy)]
 pub enum Judged {
     Fine,
     Faulty(WkbRefusal),
 }
 
 // What reading answers: how many rings and how many numbers were stored, or a refusal.
-#[derive(Drop)]
+#[derive(Clone, Copy)]
 pub enum ReadWkb {
     Read(usize, usize),
     Unread(WkbRefusal),

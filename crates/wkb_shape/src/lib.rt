@@ -13,7 +13,7 @@ use wkb_fields::{ByteOrder, u32_at};
 const POLYGON: u32 = 3;
 
 // What only reading well-known binary refuses, and 01's own refusals.
-#[derive(Drop)]
+#[derive(Clone, Copy)]
 pub enum WkbRefusal {
     // the bytes end within a field, or go on behind the last one; the place of the first byte of that field, or of what goes on
     Ends(usize),
@@ -50,28 +50,28 @@ impl WkbRefusal {
 }
 
 // Where a pass over fields ends.
-#[derive(Drop)]
+#[derive(Clone, Copy)]
 pub enum Walked {
     Past(usize),
     Stopped(WkbRefusal),
 }
 
 // The byte order, and the place behind it.
-#[derive(Drop)]
+#[derive(Clone, Copy)]
 pub enum Ordered {
     As(ByteOrder, usize),
     Unordered(WkbRefusal),
 }
 
 // What a polygon begins with: its byte order and its ring count; and the place behind that.
-#[derive(Drop)]
+#[derive(Clone, Copy)]
 pub enum Header {
     Of(ByteOrder, usize, usize),
     Unheaded(WkbRefusal),
 }
 
 // What the bytes are: a polygon of so many rings, or not.
-#[derive(Drop)]
+#[derive(Clone, Copy)]
 pub enum Shaped {
     Rings(ByteOrder, usize),
     Unshaped(WkbRefusal),
