@@ -1,0 +1,12 @@
+use Prim.Native.Nat.{◌-◌}
+use lib.ListN.{length}
+use Rattle.answers.specs.declared.Refusal.TheVariants.{TooFew}
+use Rattle.outline_check.specs.Rules.{enough}
+use Rattle.outline_check.proofs.Rules.{Walking}
+use Rattle.outline_check.proofs.check_few.Given as goal
+
+abbrev pub invariant-loop-k : goal.invariant-loop-k
+invariant-loop-k l = Walking (enough l.sizes) TooFew (length l.sizes) l.k
+
+abbrev pub decreases-loop-k : goal.decreases-loop-k
+decreases-loop-k l = length l.sizes - l.k
