@@ -13,7 +13,7 @@ use answers::Refusal;
 use rings::Checked;
 use room::{wide, zero_fill_u32};
 use stripes_count::stripe_count;
-use stripes_index::{greatest_y, high_end_lem, least_y, low_end, prepare};
+use stripes_index::{greatest_y, high_end, least_y, low_end, prepare};
 use stripes_place::stripe_of;
 
 // What was built: how many segments and stripes, entries in all, and entries in the fullest stripe.
@@ -55,7 +55,7 @@ fn enter_segment(
     ensures stripes_after { stripes.new ≡ pad (length stripes.old) (table_at (crosses (wide ring.now) least height m) m (held (length ring.now)) (i + 1)) }
     ensures list_after { list.new ≡ pad (length list.old) (list_at_of (crosses (wide ring.now) least height m) m (held (length ring.now)) (i + 1)) }
 {
-    let last = stripe_of(high_end_lem(ring, i), least, height, m);
+    let last = stripe_of(high_end(ring, i), least, height, m);
     let mut s = stripe_of(low_end(ring, i), least, height, m);
     while s <= last {
         let count = stripes[s * 2 + 1];

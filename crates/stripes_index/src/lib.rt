@@ -29,7 +29,7 @@ pub fn low_end(ring: &[i32], i: usize) -> f64
 }
 
 // The higher end's. For the same.
-pub fn high_end_lem(ring: &[i32], i: usize) -> f64
+pub fn high_end(ring: &[i32], i: usize) -> f64
     requires { i * 2 + 3 < length ring.now }
     ensures { result ≡ high_end (wide ring.now) i }
 {
@@ -58,7 +58,7 @@ pub fn greatest_y(ring: &[i32], n: usize) -> f64
     let mut greatest = coordinate(ring, 1);
     let mut i: usize = 0;
     while i < n {
-        greatest = floats::greater(greatest, high_end_lem(ring, i));
+        greatest = floats::greater(greatest, high_end(ring, i));
         i += 1;
     }
     greatest
@@ -70,7 +70,7 @@ fn count_segment(ring: &[i32], least: f64, height: f64, m: usize, i: usize, stri
     requires stripes_value { stripes.old ≡ pad (length stripes.old) (counts_at (crosses (wide ring.now) least height m) m i) }
     ensures { stripes.new ≡ pad (length stripes.old) (counts_at (crosses (wide ring.now) least height m) m (i + 1)) }
 {
-    let last = stripe_of(high_end_lem(ring, i), least, height, m);
+    let last = stripe_of(high_end(ring, i), least, height, m);
     let mut s = stripe_of(low_end(ring, i), least, height, m);
     while s <= last {
         stripes[s * 2 + 1] = stripes[s * 2 + 1] + 1;
