@@ -1,8 +1,6 @@
 // The fields of a line.
 ghost use Rattle.std.specs.Prelude.{◌+◌, ◌≤◌, ◌<◌, length};
 
-use check::same;
-
 // A field that was read: what it says, the place past it, and whether all is well up to there.
 #[derive(Clone, Copy)]
 pub struct Field {
@@ -45,7 +43,7 @@ pub fn word_end(line: &[u8]) -> usize
 pub fn is(line: &[u8], end: usize, word: &[u8]) -> bool
     requires { end ≤ length line.now }
 {
-    same(&line[0..end], word)
+    &line[0..end] == word
 }
 
 // The value of a hexadecimal digit, 16 for any other byte.

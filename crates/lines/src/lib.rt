@@ -3,5 +3,6 @@
 
 pub mod fields;
 pub mod print;
+pub mod read;
 pub mod rings;
 pub mod signed;

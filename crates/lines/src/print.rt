@@ -1,70 +1,63 @@
-// The answers, as docs/REPLAY.md has them.
+// The answers, as docs/REPLAY.md has them. An error is that of the first write that failed; nothing is printed after it.
 use answers::{Answer, Refusal};
-use libc::STDOUT_FILENO;
+use std::io;
 
-pub fn text(t: &[u8]) {
-    io::write_all(STDOUT_FILENO, t);
+pub fn text(rt: &impl Print, t: &[u8]) -> io::Result<()> {
+    rt.write_all(t)
 }
 
-pub fn space() {
-    text(b" ");
+pub fn space(rt: &impl Print) -> io::Result<()> {
+    text(rt, b" ")
 }
 
-pub fn end_line() {
-    text(b"\n");
+pub fn end_line(rt: &impl Print) -> io::Result<()> {
+    text(rt, b"\n")
 }
 
-pub fn unknown() {
-    text(b"?\n");
+pub fn unknown(rt: &impl Print) -> io::Result<()> {
+    text(rt, b"?\n")
 }
 
-pub fn number(x: u64) {
-    io::print_hex(STDOUT_FILENO, x, 16);
+pub fn number(rt: &impl Print, x: u64) -> io::Result<()> {
+    print!(rt; "{x:016x}")
 }
 
 // A whole number by its two's complement.
-pub fn whole(x: i64) {
+pub fn whole(rt: &impl Print, x: i64) -> io::Result<()> {
     if x < 0 {
-        number(0xffff_ffff_ffff_ffff - ((0 - (x + 1)) as u64));
-        return;
+        return number(rt, 0xffff_ffff_ffff_ffff - ((0 - (x + 1)) as u64));
     }
-    number(x as u64);
+    number(rt, x as u64)
 }
 
-pub fn float(x: f64) {
+pub fn float(rt: &impl Print, x: f64) -> io::Result<()> {
     if x != x {
-        text(b"nan");
-        return;
+        return text(rt, b"nan");
     }
-    number(f64::to_bits(x));
+    number(rt, f64::to_bits(x))
 }
 
-fn wide(b: u8) -> u64 {
-    b as u64
-}
-
-pub fn bytes(b: &[u8]) {
+pub fn bytes(rt: &impl Print, b: &[u8]) -> io::Result<()> {
     if b.len() == 0 {
-        text(b"-");
+        text(rt, b"-")?;
     }
-    let mut i: usize = 0;
-    while i < b.len() {
-        io::print_hex(STDOUT_FILENO, wide(b[i]), 2);
-        i += 1;
+    for x in b {
+        print!(rt; "{x:02x}")?;
     }
+    Ok(())
 }
 
-pub fn refused(r: Refusal) {
-    text(b"refused ");
-    number(r.number() as u64);
-    space();
-    number(r.place() as u64);
+pub fn refused(rt: &impl Print, r: Refusal) -> io::Result<()> {
+    text(rt, b"refused ")?;
+    number(rt, r.number() as u64)?;
+    space(rt)?;
+    number(rt, r.place() as u64)
 }
 
-pub fn said(answer: Answer) {
+pub fn said(rt: &impl Print, answer: Answer) -> io::Result<()> {
     match answer {
-        Answer::Yes => text(b"yes"),
-        Answer::No => text(b"no"),
-        Answer::Refused(r) => refused(r),
+        Answer::Yes => text(rt, b"yes"),
+        Answer::No => text(rt, b"no"),
+        Answer::Refused(r) => refused(rt, r),
     }
 }

@@ -6,6 +6,7 @@ use lines::fields::{Field, ends, is, number, start};
 use lines::print;
 use lines::signed::{coordinate, float_of, is_coordinate, signed};
 use rays::{RaycastResult, raycast};
+use std::io;
 
 // Two floats and where they end.
 #[derive(Clone, Copy)]
@@ -70,45 +71,45 @@ fn end_point(line: &[u8], before: Field) -> EndField {
     }
 }
 
-fn cast(line: &[u8], word: usize) -> bool {
+fn cast(rt: &impl Print, line: &[u8], word: usize) -> io::Result<bool> {
     let a = end_point(line, start(word));
     let b = end_point(line, a.last);
     let p = point(line, b.last);
     if !ends(line, p.last) {
-        return false;
+        return Ok(false);
     }
     let from = a.at;
     let to = b.at;
     match raycast(Segment { a: from, b: to }, p.at) {
-        RaycastResult::Neither => print::text(b"neither"),
-        RaycastResult::Inside => print::text(b"inside"),
-        RaycastResult::On => print::text(b"on"),
+        RaycastResult::Neither => print::text(rt, b"neither")?,
+        RaycastResult::Inside => print::text(rt, b"inside")?,
+        RaycastResult::On => print::text(rt, b"on")?,
     }
-    true
+    Ok(true)
 }
 
-fn choose(line: &[u8], word: usize) -> bool {
+fn choose(rt: &impl Print, line: &[u8], word: usize) -> io::Result<bool> {
     let bounds = rect(line, start(word));
     let segment = rect(line, bounds.last);
     if !ends(line, segment.last) {
-        return false;
+        return Ok(false);
     }
     match choose_quad(bounds.at, segment.at) {
-        Chosen::Quadrant(q) => print::number(q as u64),
-        Chosen::Stays => print::text(b"stays"),
+        Chosen::Quadrant(q) => print::number(rt, q as u64)?,
+        Chosen::Stays => print::text(rt, b"stays")?,
     }
-    true
+    Ok(true)
 }
 
 // Answers a line whose word, which ends at `word`, is of this module; false where it is not.
-pub fn answer(line: &[u8], word: usize) -> bool
+pub fn answer(rt: &impl Print, line: &[u8], word: usize) -> io::Result<bool>
     requires { word ≤ length line.now }
 {
     if is(line, word, b"raycast") {
-        return cast(line, word);
+        return cast(rt, line, word);
     }
     if is(line, word, b"choose_quad") {
-        return choose(line, word);
+        return choose(rt, line, word);
     }
-    false
+    Ok(false)
 }

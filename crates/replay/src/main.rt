@@ -11,6 +11,8 @@ ghost use Rattle.std.specs.Prelude.{◌≡◌, length};
 
 use lines::fields::{line_end, word_end};
 use lines::print;
+use lines::read::read_full;
+use std::io;
 
 // Room for the whole input. The `ensures` gives the length, which lending the array as a slice needs.
 fn input() -> [u8; 1048576]
@@ -19,39 +21,36 @@ fn input() -> [u8; 1048576]
     [0; 1048576]
 }
 
-fn main() {
+fn main(rt: HostRuntime) -> io::Result<()> {
     let mut text = input();
-    let n = io::read_full(libc::STDIN_FILENO, &mut text);
-    answer_all(&text[..n]);
+    let n = read_full(&mut rt.reader(), &mut text)?;
+    answer_all(&rt, &text[..n])
 }
 
-fn answer_all(text: &[u8]) {
+fn answer_all(rt: &impl Print, text: &[u8]) -> io::Result<()> {
     let mut at: usize = 0;
     while at < text.len() {
         let end = line_end(text, at);
-        answer(&text[at..end]);
+        answer(rt, &text[at..end])?;
         at = end + 1;
     }
+    Ok(())
 }
 
 // Each module knows some words, and prints the answer to a line with one of them.
-fn answer(line: &[u8]) {
+fn answer(rt: &impl Print, line: &[u8]) -> io::Result<()> {
     let word = word_end(line);
-    if numbers::answer(line, word) {
-        print::end_line();
-        return;
+    if numbers::answer(rt, line, word)? {
+        return print::end_line(rt);
     }
-    if varints::answer(line, word) {
-        print::end_line();
-        return;
+    if varints::answer(rt, line, word)? {
+        return print::end_line(rt);
     }
-    if casts::answer(line, word) {
-        print::end_line();
-        return;
+    if casts::answer(rt, line, word)? {
+        return print::end_line(rt);
     }
-    if grids::answer(line, word) {
-        print::end_line();
-        return;
+    if grids::answer(rt, line, word)? {
+        return print::end_line(rt);
     }
-    print::unknown();
+    print::unknown(rt)
 }

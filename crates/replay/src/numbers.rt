@@ -6,32 +6,33 @@ use lines::fields::{ends, is, number, start};
 use lines::print;
 use lines::signed::float_of;
 use root::sqrt;
+use std::io;
 use whole::{floor, round};
 
 // Answers a line whose word, which ends at `word`, is of this module; false where it is not.
-pub fn answer(line: &[u8], word: usize) -> bool
+pub fn answer(rt: &impl Print, line: &[u8], word: usize) -> io::Result<bool>
     requires { word ≤ length line.now }
 {
     let field = number(line, start(word));
     if !ends(line, field) {
-        return false;
+        return Ok(false);
     }
     let x = float_of(field.value);
     if is(line, word, b"next_up") {
-        print::float(next_up(x));
-        return true;
+        print::float(rt, next_up(x))?;
+        return Ok(true);
     }
     if is(line, word, b"floor") {
-        print::whole(floor(x));
-        return true;
+        print::whole(rt, floor(x))?;
+        return Ok(true);
     }
     if is(line, word, b"round") {
-        print::whole(round(x));
-        return true;
+        print::whole(rt, round(x))?;
+        return Ok(true);
     }
     if is(line, word, b"sqrt") {
-        print::float(sqrt(x));
-        return true;
+        print::float(rt, sqrt(x))?;
+        return Ok(true);
     }
-    false
+    Ok(false)
 }

@@ -10,6 +10,8 @@ ghost use Rattle.std.specs.Prelude.{◌≡◌, length};
 
 use lines::fields::{line_end, word_end};
 use lines::print;
+use lines::read::read_full;
+use std::io;
 
 // Room for the whole input. The `ensures` gives the length, which lending the array as a slice needs.
 fn input() -> [u8; 1048576]
@@ -18,35 +20,33 @@ fn input() -> [u8; 1048576]
     [0; 1048576]
 }
 
-fn main() {
+fn main(rt: HostRuntime) -> io::Result<()> {
     let mut text = input();
-    let n = io::read_full(libc::STDIN_FILENO, &mut text);
-    answer_all(&text[..n]);
+    let n = read_full(&mut rt.reader(), &mut text)?;
+    answer_all(&rt, &text[..n])
 }
 
-fn answer_all(text: &[u8]) {
+fn answer_all(rt: &impl Print, text: &[u8]) -> io::Result<()> {
     let mut at: usize = 0;
     while at < text.len() {
         let end = line_end(text, at);
-        answer(&text[at..end]);
+        answer(rt, &text[at..end])?;
         at = end + 1;
     }
+    Ok(())
 }
 
 // Each module knows some words, and prints the answer to a line with one of them.
-fn answer(line: &[u8]) {
+fn answer(rt: &impl Print, line: &[u8]) -> io::Result<()> {
     let word = word_end(line);
-    if lists::answer(line, word) {
-        print::end_line();
-        return;
+    if lists::answer(rt, line, word)? {
+        return print::end_line(rt);
     }
-    if indexes::answer(line, word) {
-        print::end_line();
-        return;
+    if indexes::answer(rt, line, word)? {
+        return print::end_line(rt);
     }
-    if outlines::answer(line, word) {
-        print::end_line();
-        return;
+    if outlines::answer(rt, line, word)? {
+        return print::end_line(rt);
     }
-    print::unknown();
+    print::unknown(rt)
 }

@@ -11,6 +11,7 @@ use outline_build::{Built, build_indexes};
 use outline_check::{Outline, RaycastMode};
 use outline_index::BuildOptions;
 use outline_record::{Made, make_boxes};
+use std::io;
 
 fn wide(b: u8) -> u32 {
     b as u32
@@ -54,6 +55,7 @@ fn options_of(kinds: u64) -> BuildOptions {
 
 // The indexes, then the answer through them.
 fn ask(
+    rt: &impl Print,
     outline: Outline,
     sizes: &[u32],
     coords: &[i32],
@@ -61,7 +63,7 @@ fn ask(
     kinds: u64,
     p: Point,
     edge: bool,
-) {
+) -> io::Result<()> {
     let mut table = [0u64; 320];
     let mut spans = [0.0; 64];
     let mut stripes = [0u32; 4096];
@@ -79,24 +81,36 @@ fn ask(
         &mut bytes,
         &mut work,
     ) {
-        Built::Unbuilt(r) => print::refused(r),
-        Built::Indexed(_) => print::said(inside(
-            outline, sizes, coords, boxes, &table, &spans, &stripes, &list, &bytes, p, edge,
-        )),
+        Built::Unbuilt(r) => print::refused(rt, r),
+        Built::Indexed(_) => print::said(
+            rt,
+            inside(
+                outline, sizes, coords, boxes, &table, &spans, &stripes, &list, &bytes, p, edge,
+            ),
+        ),
     }
 }
 
 // The record first.
-fn recorded(outline: Outline, sizes: &[u32], coords: &[i32], kinds: u64, p: Point, edge: bool) {
+fn recorded(
+    rt: &impl Print,
+    outline: Outline,
+    sizes: &[u32],
+    coords: &[i32],
+    kinds: u64,
+    p: Point,
+    edge: bool,
+) -> io::Result<()> {
     let mut boxes = [0i32; 128];
     match make_boxes(outline, sizes, coords, &mut boxes) {
-        Made::Unmade(r) => print::refused(r),
-        Made::Rings(_) => ask(outline, sizes, coords, &boxes, kinds, p, edge),
+        Made::Unmade(r) => print::refused(rt, r),
+        Made::Rings(_) => ask(rt, outline, sizes, coords, &boxes, kinds, p, edge),
     }
 }
 
 // Of the rooms that a line was read into, the first so many rings and coordinates.
 fn read(
+    rt: &impl Print,
     outline: Outline,
     counts: &[u8],
     rings: usize,
@@ -105,17 +119,24 @@ fn read(
     kinds: u64,
     p: Point,
     edge: bool,
-) {
+) -> io::Result<()> {
     let mut sizes = [0u32; 32];
     let many = at_most(at_most(rings, 32), counts.len());
     let n = at_most(numbers, coords.len());
     sizes_of(&counts[0..many], &mut sizes);
     let told = at_most(many, 32);
-    recorded(outline, &sizes[0..told], &coords[0..n], kinds, p, edge);
+    recorded(rt, outline, &sizes[0..told], &coords[0..n], kinds, p, edge)
 }
 
 // The fields behind the coordinates; false where they are not good.
-fn asked(line: &[u8], counts: &[u8], many: usize, coords: &[i32], lent: Field) -> bool {
+fn asked(
+    rt: &impl Print,
+    line: &[u8],
+    counts: &[u8],
+    many: usize,
+    coords: &[i32],
+    lent: Field,
+) -> io::Result<bool> {
     let scale = number(line, lent);
     let mode = number(line, scale);
     let kinds = number(line, mode);
@@ -123,7 +144,7 @@ fn asked(line: &[u8], counts: &[u8], many: usize, coords: &[i32], lent: Field) -
     let y = number(line, x);
     let edge = number(line, y);
     if !ends(line, edge) | (1 < edge.value) | (1 < mode.value) | (3 < kinds.value) {
-        return false;
+        return Ok(false);
     }
     let outline = Outline::new_with_mode(float_of(scale.value), mode_of(mode.value));
     let p = Point {
@@ -132,6 +153,7 @@ fn asked(line: &[u8], counts: &[u8], many: usize, coords: &[i32], lent: Field) -
     };
     let n = lent.value as usize;
     read(
+        rt,
         outline,
         counts,
         many,
@@ -140,25 +162,25 @@ fn asked(line: &[u8], counts: &[u8], many: usize, coords: &[i32], lent: Field) -
         kinds.value,
         p,
         edge.value == 1,
-    );
-    true
+    )?;
+    Ok(true)
 }
 
 // The coordinates, behind the sizes.
-fn with_rings(line: &[u8], counts: &[u8], rings: Field) -> bool {
+fn with_rings(rt: &impl Print, line: &[u8], counts: &[u8], rings: Field) -> io::Result<bool> {
     let mut coords = [0i32; 64];
     let lent = ring(line, rings, &mut coords);
-    asked(line, counts, rings.value as usize, &coords, lent)
+    asked(rt, line, counts, rings.value as usize, &coords, lent)
 }
 
 // Answers a line whose word, which ends at `word`, is of this module; false where it is not.
-pub fn answer(line: &[u8], word: usize) -> bool
+pub fn answer(rt: &impl Print, line: &[u8], word: usize) -> io::Result<bool>
     requires { word ≤ length line.now }
 {
     if !is(line, word, b"inside") {
-        return false;
+        return Ok(false);
     }
     let mut counts = [0u8; 32];
     let rings = bytes(line, start(word), &mut counts);
-    with_rings(line, &counts, rings)
+    with_rings(rt, line, &counts, rings)
 }

@@ -1,39 +1,36 @@
 // What a line is made of.
 use answers::Refusal;
-use libc::STDOUT_FILENO;
+use std::io;
 
-pub fn text(t: &[u8]) {
-    io::write_all(STDOUT_FILENO, t);
+pub fn text(rt: &impl Print, t: &[u8]) -> io::Result<()> {
+    rt.write_all(t)
 }
 
-pub fn number(x: u64) {
-    io::print_decimal(STDOUT_FILENO, x);
+pub fn number(rt: &impl Print, x: u64) -> io::Result<()> {
+    print!(rt; "{x}")
 }
 
-pub fn count(x: usize) {
-    number(x as u64);
+pub fn count(rt: &impl Print, x: usize) -> io::Result<()> {
+    number(rt, x as u64)
 }
 
-pub fn refused(r: Refusal) {
-    text(b"refusal ");
-    number(r.number() as u64);
-    text(b", place ");
-    count(r.place());
-}
-
-fn wide(b: u8) -> u64 {
-    b as u64
+pub fn refused(rt: &impl Print, r: Refusal) -> io::Result<()> {
+    text(rt, b"refusal ")?;
+    number(rt, r.number() as u64)?;
+    text(rt, b", place ")?;
+    count(rt, r.place())
 }
 
 // The first so many bytes, each with a space before it.
-pub fn first_bytes(bytes: &[u8], most: usize) {
+pub fn first_bytes(rt: &impl Print, bytes: &[u8], most: usize) -> io::Result<()> {
     let mut i: usize = 0;
     while i < bytes.len() {
         if i == most {
-            return;
+            return Ok(());
         }
-        text(b" ");
-        io::print_hex(STDOUT_FILENO, wide(bytes[i]), 2);
+        text(rt, b" ")?;
+        print!(rt; "{:02x}", bytes[i])?;
         i += 1;
     }
+    Ok(())
 }

@@ -2,6 +2,7 @@
 ghost use Rattle.std.specs.Prelude.{◌*◌, ◌≤◌, length};
 
 use crate::print::{count, first_bytes, refused, text};
+use std::io;
 use tree_build::{TreeBuilt, build_tree};
 
 fn up_to_24(n: usize) -> usize {
@@ -9,17 +10,23 @@ fn up_to_24(n: usize) -> usize {
 }
 
 // How many bytes the tree of a ring takes, and the first 24 of them.
-fn tree_in(coords: &[i32], points: usize, bytes: &mut [u8], work: &mut [u32]) {
+fn tree_in(
+    rt: &impl Print,
+    coords: &[i32],
+    points: usize,
+    bytes: &mut [u8],
+    work: &mut [u32],
+) -> io::Result<()> {
     match build_tree(coords, points, 0, bytes, work) {
         TreeBuilt::Packed(used) => {
-            count(used);
-            text(b" bytes:");
-            first_bytes(bytes, up_to_24(used));
+            count(rt, used)?;
+            text(rt, b" bytes:")?;
+            first_bytes(rt, bytes, up_to_24(used))?;
         }
-        TreeBuilt::Unpacked => text(b"none"),
-        TreeBuilt::TreeRefused(r) => refused(r),
+        TreeBuilt::Unpacked => text(rt, b"none")?,
+        TreeBuilt::TreeRefused(r) => refused(rt, r)?,
     }
-    text(b"\n");
+    text(rt, b"\n")
 }
 
 // Along the x axis by ones. What stands behind is zero, so the last segment goes back to the start.
@@ -33,38 +40,38 @@ fn along(coords: &mut [i32], segments: usize)
     }
 }
 
-fn row(coords: &mut [i32], segments: usize)
+fn row(rt: &impl Print, coords: &mut [i32], segments: usize) -> io::Result<()>
     requires { (segments * 2 ≤ length coords.old) × (segments ≤ 13) }
 {
     along(coords, segments);
     let mut bytes = [0u8; 32];
     let mut work = [0u32; 32];
-    count(segments);
-    text(b" segments: ");
-    tree_in(coords, segments + 1, &mut bytes, &mut work);
+    count(rt, segments)?;
+    text(rt, b" segments: ")?;
+    tree_in(rt, coords, segments + 1, &mut bytes, &mut work)
 }
 
 // Of 13 the root keeps the step to the middle and the way back; five steps are west, six east.
-pub fn rows() {
+pub fn rows(rt: &impl Print) -> io::Result<()> {
     let mut short = [0i32; 26];
-    row(&mut short, 12);
+    row(rt, &mut short, 12)?;
     let mut long = [0i32; 28];
-    row(&mut long, 13);
+    row(rt, &mut long, 13)
 }
 
 // All 13 go north-east each time. Depths 0 to 64 are 65 nodes, for which 65 * 6 + 13 = 403 work numbers are called for.
-pub fn one_point() {
+pub fn one_point(rt: &impl Print) -> io::Result<()> {
     let ring = [0i32; 28];
     let mut bytes = [0u8; 444];
     let mut work = [0u32; 403];
-    text(b"13 segments of one point, 403 work numbers: ");
-    tree_in(&ring, 14, &mut bytes, &mut work);
+    text(rt, b"13 segments of one point, 403 work numbers: ")?;
+    tree_in(rt, &ring, 14, &mut bytes, &mut work)
 }
 
-pub fn one_point_short() {
+pub fn one_point_short(rt: &impl Print) -> io::Result<()> {
     let ring = [0i32; 28];
     let mut bytes = [0u8; 444];
     let mut work = [0u32; 402];
-    text(b"13 segments of one point, 402 work numbers: ");
-    tree_in(&ring, 14, &mut bytes, &mut work);
+    text(rt, b"13 segments of one point, 402 work numbers: ")?;
+    tree_in(rt, &ring, 14, &mut bytes, &mut work)
 }
