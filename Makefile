@@ -6,6 +6,7 @@
 test: oracle-check edits-check outcome-check
 	@mkdir -p build
 	@rt ci >build/rt.log 2>&1; status=$$?; cat build/rt.log; exit $$status
+	@tools/edits none-bad build/rt.log
 	@$(MAKE) --no-print-directory oracle-test replay-check compare-short host-test soak-short
 	@tail -n 1 build/rt.log
 
@@ -13,12 +14,16 @@ test: oracle-check edits-check outcome-check
 outcome-check:
 	crates/outcome/none-missing
 
-# Proves what has changed, with no must-fail edits: the loop while working.
+# Proves what has changed, with no must-fail edits: the loop while working. In a crate's folder `rt check` does so for it and what it needs.
 check:
-	rt check
+	rt all check
 
+# Lays out every crate's files; `rt ci` refuses one that is not.
 fmt:
-	rt fmt
+	@for crate in crates/*/; do (cd $$crate && rt fmt) || exit 1; done
+
+# What the proved libraries are made of: they are linked again only where one of these has changed.
+SOURCES := crates.txt $(shell find crates -path '*/out' -prune -o \( -name '*.rt' -o -name '*.antt' \) -print)
 
 # Each edit says on which input it is wrong and still fits the code, and docs/PROMISES.md names none that is not there. Nothing is proved.
 edits-check:

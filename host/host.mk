@@ -1,5 +1,5 @@
 # The host: the safe wrapper and formboard over the proved library. The root Makefile includes this file.
-# Cargo works offline, with its files in host/target, since rt empties ./target.
+# Cargo works offline, with its files in host/target.
 
 HOST = cd host && cargo
 FORMBOARD = $(HOST) run --quiet --release --offline -p formboard --
@@ -18,12 +18,10 @@ CAPI_DIR = $(BROTHSTITCH_DIR)
 # what a library written in Rust wants besides; the proved one wants nothing
 C_LIBS = -lpthread -ldl -lm
 else
-CAPI_DIR = target/staticlib
+CAPI_DIR = crates/capi/out
 CAPI = $(CAPI_DIR)/libcapi.a
-# what the library is made of: proved and linked again only where one of these has changed
-SOURCES = crates.txt $(shell find crates -name '*.rt' -o -name '*.antt')
 $(CAPI): $(SOURCES)
-	@echo "proving the library (about five minutes from nothing, less after a change); the prover's own words go to build/capi.log"
+	@echo "proving the library (a while from nothing, less after a change); the prover's own words go to build/capi.log"
 	@host/prove-quietly capi
 	@touch $(CAPI)
 endif

@@ -1,5 +1,5 @@
 # The oracle: geometry-rs, unchanged, and what asks it. The root Makefile includes this file.
-# Cargo works offline, with its files in oracle/target, since rt empties ./target.
+# Cargo works offline, with its files in oracle/target.
 
 CARGO = cd oracle && cargo
 
@@ -13,16 +13,18 @@ oracle-check:
 oracle-test: oracle-check
 	$(CARGO) test --release --offline
 
-target/staticlib/libprobe.a: FORCE
-	rt staticlib probe
-FORCE:
+PROBE = crates/probe/out/libprobe.a
+$(PROBE): $(SOURCES)
+	@echo "proving the functions under their C names for the comparison; the prover's own words go to build/probe.log"
+	@host/prove-quietly probe
+	@touch $(PROBE)
 
 # the library beside the Rust, on every edge and millions of random inputs
-compare: oracle-check target/staticlib/libprobe.a capi-library
+compare: oracle-check $(PROBE) capi-library
 	$(CARGO) run --release --offline -p compare
 
 # the same in a few seconds
-compare-short: oracle-check target/staticlib/libprobe.a capi-library
+compare-short: oracle-check $(PROBE) capi-library
 	$(CARGO) run --release --offline -p compare -- --short
 
 # writes the questions and the oracle's answers that the crates replay and replay_rings are run on
