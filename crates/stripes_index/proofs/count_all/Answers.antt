@@ -14,7 +14,7 @@ pub loop-i-init : goal.loop-i-init
 loop-i-init c =
     let a = c.args in
     let p = c.requires in
-    (p.1 ∙ counts_zero (crosses (wide a.ring.now) a.least a.height a.m) a.m (length a.stripes.now) p.0.3, refl, omega arith)
+    (p.stripes_value ∙ counts_zero (crosses (wide a.ring.now) a.least a.height a.m) a.m (length a.stripes.now) p.n_bound.3, refl, omega arith)
 
 pub count_segment-requires : goal.count_segment-requires
 count_segment-requires c =
@@ -32,7 +32,7 @@ loop-i-preserved c =
     let l = b.loop-i in
     let a = b.args in
     let cross = crosses (wide a.ring.now) a.least a.height a.m in
-    (b.count_segment.ensures ∙ ap (λ (k : ℕ). pad k (counts_at cross a.m (l.i + 1))) l.invariant.1, b.count_segment.auto.1.1.1.1.1.0 ∙ l.invariant.1, omega arith)
+    (b.count_segment.ensures ∙ ap (λ (k : ℕ). pad k (counts_at cross a.m (l.i + 1))) l.invariant.1, b.count_segment.auto.stripes ∙ l.invariant.1, omega arith)
 
 pub returns : goal.returns
 returns c =

@@ -19,15 +19,15 @@ loop-s-init c =
     let a = c.args in
     let p = c.requires in
     let e : c.stripe_of-s.result ≡ first_stripe (wide a.ring.now) a.least a.height a.m a.i = simp (c.stripe_of-s.ensures, c.low_end.ensures) in
-    let f : c.stripe_of-last.result ≡ last_stripe (wide a.ring.now) a.least a.height a.m a.i = simp (c.stripe_of-last.ensures, c.high_end_lem.ensures) in (
-      p.1
+    let f : c.stripe_of-last.result ≡ last_stripe (wide a.ring.now) a.least a.height a.m a.i = simp (c.stripe_of-last.ensures, c.high_end.ensures) in (
+      p.stripes_value
           ∙ ap (pad (length a.stripes.now))
           (sym (counts_from (crosses (wide a.ring.now) a.least a.height a.m) a.m a.i c.stripe_of-s.result none
           (λ t h. omega (arith, e, crosses_from (wide a.ring.now) a.least a.height a.m t a.i h)))),
       refl,
       omega arith,
       f,
-      omega (arith, f, stripe_below (high_end (wide a.ring.now) a.i) a.least a.height a.m p.0.2 (omega arith)),
+      omega (arith, f, stripe_below (high_end (wide a.ring.now) a.i) a.least a.height a.m p.i_bound.2 (omega arith)),
     )
 
 pub overflow_add-stripes-in-loop-s : goal.overflow_add-stripes-in-loop-s

@@ -13,7 +13,7 @@ loop-i-init c = (omega arith, c.coordinate-greatest.ensures)
 pub loop-i-preserved : goal.loop-i-preserved
 unfolding greatest_y
 loop-i-preserved c =
-    (omega arith, simp (add-one, c.greater-greatest.ensures, c.high_end_lem.ensures, c.loop-i.invariant.1))
+    (omega arith, simp (add-one, c.greater-greatest.ensures, c.high_end.ensures, c.loop-i.invariant.1))
 
 pub returns : goal.returns
 returns c =

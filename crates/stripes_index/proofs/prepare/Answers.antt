@@ -16,7 +16,7 @@ place_starts-requires c =
     let a = b.args in
     let cross = crosses (wide a.ring.now) a.least a.height a.m in
     let w = k.count_all.ensures in
-    let e = k.count_all.auto.1.1.1.1.1.0 in
+    let e = k.count_all.auto.stripes in
     record {
       m_bound = (
         omega arith,
@@ -33,7 +33,7 @@ returns c =
     let a = k.args in
     let cross = crosses (wide a.ring.now) a.least a.height a.m in
     let w = k.count_all.ensures in
-    let e = k.count_all.auto.1.1.1.1.1.0 in
+    let e = k.count_all.auto.stripes in
     record {
       entries_value = (
         p.place_starts.ensures.entries_value.0 ∙ counted_entries cross a.n a.m (length a.stripes.now) _ w,
