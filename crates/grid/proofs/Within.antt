@@ -42,4 +42,4 @@ box_fits ax ay bx by px py fax fay fbx fby box =
 
 -- a coordinate that was widened and handed on is the coordinate
 pub widened : (r z : ℤ) → r ≡ to_z w32 (of_z w32 z) → SFits w32 z → to_z w64 (of_z w64 r) ≡ z
-widened r z e f = rw (e, to_z-of_z f) (to_z-of_z (sfits_widen tt f))
+widened r z e f = rw (e, to_z-of_z f) (to_z-of_z {w = w64} (sfits_widen {w = w32} {w' = w64} tt f))

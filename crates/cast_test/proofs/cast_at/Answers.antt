@@ -17,6 +17,6 @@ returns c =
     let start = by in
     let zs = start.args.ring.now in
     let i = start.args.i in
-    let back : (k : ℕ) → mag (get_or zs k (pos 0)) < 2 ^ 31 → to_z w32 (of_z w32 (get_or zs k (pos 0))) ≡ get_or zs k (pos 0) = λ k h. to_z-of_z (record { sfits = h }) in
+    let back : (k : ℕ) → mag (get_or zs k (pos 0)) < 2 ^ 31 → to_z w32 (of_z w32 (get_or zs k (pos 0))) ≡ get_or zs k (pos 0) = λ k h. to_z-of_z {w = w32} {z = get_or zs k (pos 0)} (record { sfits = h }) in
     simp (back (i * 2) by.ax-1.given, back (i * 2 + 1) by.ay-1.given, back (i * 2 + 2) by.bx-1.given, back (i * 2 + 3) by.by-1.given)
     at c.cast.ensures.computed

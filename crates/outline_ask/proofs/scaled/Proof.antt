@@ -22,7 +22,7 @@ returns-2 : tie.Need-returns-2
 returns-2 c =
     let f = c.before.before.before.before.before in
     let a = c.before.before.before.before.before.before.before.before.before.before.before.before.before.args in
-    ap₂ WholePlace (to_z-of_z (record { sfits = c.before.round.type-inv }) ∙ c.before.round.ensures.1) (to_z-of_z (record { sfits = c.round2.type-inv }) ∙ c.round2.ensures.1)
+    ap₂ WholePlace (to_z-of_z (record { sfits = c.before.round.type_inv }) ∙ c.before.round.ensures.1) (to_z-of_z (record { sfits = c.round2.type_inv }) ∙ c.round2.ensures.1)
     ∙ query_grid a.outline a.p
     (sym (ap₂ ◌&&◌ (ap₂ ◌&&◌ f.before.before.before.is_finite.ensures f.before.before.is-finite2.ensures) (ap₂ ◌&&◌ f.before.is-finite3.ensures f.is-finite4.ensures)) ∙ c.before.before.before.before.if1.true)
     c.before.before.enum-told2.given.1

@@ -28,8 +28,8 @@ offset_bounds-coords-start c = omega (arith, part_within c.requires c.loop-k.k c
 pub slice_bounds-is_closed-count : goal.slice_bounds-is_closed-count
 slice_bounds-is_closed-count c = omega (arith, part_within c.requires c.loop-k.k c.loop-k-test.true)
 
-pub part-is-closed-end : goal.part-is-closed-end
-part-is-closed-end c = omega (arith, part_within c.requires c.loop-k.k c.loop-k-test.true)
+pub slice_bounds-is_closed-end : goal.slice_bounds-is_closed-end
+slice_bounds-is_closed-end c = omega (arith, part_within c.requires c.loop-k.k c.loop-k-test.true)
 
 pub is_closed-requires : goal.is_closed-requires
 is_closed-requires c =
@@ -45,7 +45,7 @@ returns-then-not-is_closed c =
     let l = c.loop-k in
     let a = c.args in
     let e = part_is a.sizes.now a.coords.now l.k l.start (l.start + 2 * size_at a.sizes.now l.k) l.invariant.0 refl in
-    let ok = ap (λ (ring : List ℤ). closed ring (size_at a.sizes.now l.k)) (sym e) ∙ sym c.is_closed.ensures ∙ not-true _ c.if-not-is_closed.true in
+    let ok = ap (λ (ring : List ℤ). closed ring (size_at a.sizes.now l.k)) (sym e) ∙ sym c.is_closed.ensures ∙ c.if-not-is_closed.true in
     walk_fault _ _ _ l.k l.invariant.1 c.loop-k-test.true ok
 
 pub loop-k-preserved : goal.loop-k-preserved
@@ -53,7 +53,7 @@ loop-k-preserved c =
     let l = c.loop-k in
     let a = c.args in
     let e = part_is a.sizes.now a.coords.now l.k l.start (l.start + 2 * size_at a.sizes.now l.k) l.invariant.0 refl in
-    let ok = ap (λ (ring : List ℤ). closed ring (size_at a.sizes.now l.k)) (sym e) ∙ sym c.is_closed.ensures ∙ not-false _ c.if-not-is_closed.false in
+    let ok = ap (λ (ring : List ℤ). closed ring (size_at a.sizes.now l.k)) (sym e) ∙ sym c.is_closed.ensures ∙ c.if-not-is_closed.false in
     (omega (arith, l.invariant.0, start_more a.sizes.now l.k), walk_on _ _ _ l.k l.invariant.1 c.loop-k-test.true ok)
 
 pub returns : goal.returns

@@ -15,12 +15,12 @@ pub returns-then-not-is_finite-scale : goal.returns-then-not-is_finite-scale
 unfolding outline_with scale_checked
 returns-then-not-is_finite-scale c =
     let b = c in
-    let fin = ap (λ (t : Bool). t && lt (of_bits binary64 0) b.args.outline.scale) (sym c.is_finite.ensures) ∙ not-true _ c.if-not-is_finite-scale.true in
+    let fin = ap (λ (t : Bool). t && lt (of_bits binary64 0) b.args.outline.scale) (sym c.is_finite.ensures) ∙ c.if-not-is_finite-scale.true in
     rw (sym b.check_shape_with-shape.ensures ∙ c.in-Sound.is, fin)
 
 pub returns : goal.returns
 unfolding outline_with scale_checked
 returns c =
     let b = c in
-    let fin = ap (λ (t : Bool). t && lt (of_bits binary64 0) b.args.outline.scale) (sym c.is_finite.ensures) ∙ not-false _ c.if-not-is_finite-scale.false in
+    let fin = ap (λ (t : Bool). t && lt (of_bits binary64 0) b.args.outline.scale) (sym c.is_finite.ensures) ∙ c.if-not-is_finite-scale.false in
     rw (sym b.check_shape_with-shape.ensures ∙ c.in-Sound.is, fin)

@@ -52,14 +52,14 @@ pub returns-then-not-fits-points_of : goal.returns-then-not-fits-points_of
 returns-then-not-fits-points_of c =
     let a = c.args in
     let told = sym c.check_counts-counts.ensures ∙ c.in-Sound.is in
-    let e = ap (λ (n : ℕ). a.fits && eqb (2 * n) (length a.coords.now)) (sym c.points_of.ensures) ∙ not-true _ c.if-not-fits-points_of.true in
+    let e = ap (λ (n : ℕ). a.fits && eqb (2 * n) (length a.coords.now)) (sym c.points_of.ensures) ∙ c.if-not-fits-points_of.true in
     sym (step_on a.fits a.sizes.now a.coords.now _ told e)
 
 pub check_closed-requires : goal.check_closed-requires
 check_closed-requires c =
     let a = c.args in
     let told = sym c.check_counts-counts.ensures ∙ c.in-Sound.is in
-    let e = ap (λ (n : ℕ). a.fits && eqb (2 * n) (length a.coords.now)) (sym c.points_of.ensures) ∙ not-false _ c.if-not-fits-points_of.false in
+    let e = ap (λ (n : ℕ). a.fits && eqb (2 * n) (length a.coords.now)) (sym c.points_of.ensures) ∙ c.if-not-fits-points_of.false in
     sound_counts a.sizes.now a.coords.now told (both a.fits (add_up a.sizes.now a.coords.now) e).1
 
 pub returns : goal.returns
@@ -67,5 +67,5 @@ returns c =
     let b = c in
     let a = b.args in
     let told = sym b.check_counts-counts.ensures ∙ b.in-Sound.is in
-    let e = ap (λ (n : ℕ). a.fits && eqb (2 * n) (length a.coords.now)) (sym b.points_of.ensures) ∙ not-false _ b.if-not-fits-points_of.false in
+    let e = ap (λ (n : ℕ). a.fits && eqb (2 * n) (length a.coords.now)) (sym b.points_of.ensures) ∙ b.if-not-fits-points_of.false in
     c.check_closed.ensures ∙ sym (step_on a.fits a.sizes.now a.coords.now _ told e)

@@ -24,7 +24,7 @@ loop-again : tie.Need-loop-preserved invariant-loop decreases-loop
 loop-again c =
     let l = c.before.before.before.loop in
     let a = c.before.before.before.before.before.args in
-    (omega arith, to_z-of_z (record { sfits = c.higher.type-inv }) ∙ c.higher.ensures ∙ ap₂ greater_z l.invariant.1 (to_z-of_z (record { sfits = c.before.higher-arg.given })) ∙ greatest_next a.coords.now a.offset l.i)
+    (omega arith, to_z-of_z (record { sfits = c.higher.type_inv }) ∙ c.higher.ensures ∙ ap₂ greater_z l.invariant.1 (to_z-of_z (record { sfits = c.before.higher-arg.given })) ∙ greatest_next a.coords.now a.offset l.i)
 
 returns : tie.Need-returns invariant-loop decreases-loop
 returns c =

@@ -24,7 +24,7 @@ loop-again : tie.Need-loop-preserved invariant-loop decreases-loop
 loop-again c =
     let l = c.before.before.before.loop in
     let a = c.before.before.before.before.before.args in
-    (omega arith, to_z-of_z (record { sfits = c.lower.type-inv }) ∙ c.lower.ensures ∙ ap₂ lesser_z l.invariant.1 (to_z-of_z (record { sfits = c.before.lower-arg.given })) ∙ least_next a.coords.now a.offset l.i)
+    (omega arith, to_z-of_z (record { sfits = c.lower.type_inv }) ∙ c.lower.ensures ∙ ap₂ lesser_z l.invariant.1 (to_z-of_z (record { sfits = c.before.lower-arg.given })) ∙ least_next a.coords.now a.offset l.i)
 
 returns : tie.Need-returns invariant-loop decreases-loop
 returns c =

@@ -20,10 +20,10 @@ slice-set-from-out-4 c = simp length-set (omega arith)
 
 returns : tie.Need-returns
 returns c =
-    let f0 : SFits w32 c.before.before.before.least-of.result = record { sfits = c.before.before.before.least-of.type-inv } in
-    let f1 : SFits w32 c.before.before.least-of2.result = record { sfits = c.before.before.least-of2.type-inv } in
-    let f2 : SFits w32 c.before.greatest-of.result = record { sfits = c.before.greatest-of.type-inv } in
-    let f3 : SFits w32 c.greatest-of2.result = record { sfits = c.greatest-of2.type-inv } in
+    let f0 : SFits w32 c.before.before.before.least-of.result = record { sfits = c.before.before.before.least-of.type_inv } in
+    let f1 : SFits w32 c.before.before.least-of2.result = record { sfits = c.before.before.least-of2.type_inv } in
+    let f2 : SFits w32 c.before.greatest-of.result = record { sfits = c.before.greatest-of.type_inv } in
+    let f3 : SFits w32 c.greatest-of2.result = record { sfits = c.greatest-of2.type_inv } in
     let a = c.before.before.before.before.args in
     box_written a.out.now a.ring.now a.at a.points
     (to_z-of_z f0 ∙ c.before.before.before.least-of.ensures)

@@ -9,7 +9,7 @@ use Rattle.outline_record.proofs.side_at.Tie as tie
 
 returns : tie.Need-returns
 returns c =
-    let ok : SFits w32 c.before.number_at.result = record { sfits = c.before.number_at.type-inv } in
+    let ok : SFits w32 c.before.number_at.result = record { sfits = c.before.number_at.type_inv } in
     ap (of_int binary64) (to_z-of_z ok ∙ c.before.number_at.ensures)
 
 pub side-at-spec : {M : Type 1} → statement M

@@ -32,7 +32,7 @@ returns c =
 pub overflow_add-high : goal.overflow_add-high
 overflow_add-high c =
     let l = c.loop-i in let a = c in
-    let q : c.multiply-p.result / 4294967296 ≤ 2 ^ 32 = omega (arith, c.multiply-p.type-inv) in
+    let q : c.multiply-p.result / 4294967296 ≤ 2 ^ 32 = omega (arith, c.multiply-p.type_inv) in
     record { fits = more l.high l.i a.args.n (c.multiply-p.result / 4294967296) l.invariant.2 l.invariant.0 a.requires.2 q }
 
 pub overflow_add-low : goal.overflow_add-low

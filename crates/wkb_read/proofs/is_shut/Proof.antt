@@ -17,8 +17,8 @@ returns-2 c =
     let x = y.before in
     let a = x.before.before.before.args in
     ap₂ ◌&&◌
-    (eq_bits w64 x.rounded.result q.rounded3.result (record { sfits = x.rounded.type-inv }) (record { sfits = q.rounded3.type-inv }))
-    (eq_bits w64 y.rounded2.result c.rounded4.result (record { sfits = y.rounded2.type-inv }) (record { sfits = c.rounded4.type-inv }))
+    (eq_bits w64 x.rounded.result q.rounded3.result (record { sfits = x.rounded.type_inv }) (record { sfits = q.rounded3.type_inv }))
+    (eq_bits w64 y.rounded2.result c.rounded4.result (record { sfits = y.rounded2.type_inv }) (record { sfits = c.rounded4.type_inv }))
     ∙ rw (x.rounded.ensures, y.rounded2.ensures, q.rounded3.ensures, c.rounded4.ensures)
     (sym (shut_some a.bytes.now a.order a.scale a.n a.start x.before.if1.false))
 

@@ -53,8 +53,8 @@ add-c c = omega (arith, c.before.before.before.loop.invariant.room, c.before.bef
 loop-again : tie.Need-loop-preserved invariant-loop decreases-loop
 loop-again c =
     let l = c.before.before.before.loop in
-    let x = to_z-of_z {w = w32} {z = c.before.stored_at.result} (record { sfits = c.before.stored_at.type-inv }) ∙ c.before.stored_at.ensures in
-    let y = to_z-of_z {w = w32} {z = c.stored-at2.result} (record { sfits = c.stored-at2.type-inv }) ∙ c.stored-at2.ensures in
+    let x = to_z-of_z {w = w32} {z = c.before.stored_at.result} (record { sfits = c.before.stored_at.type_inv }) ∙ c.before.stored_at.ensures in
+    let y = to_z-of_z {w = w32} {z = c.stored-at2.result} (record { sfits = c.stored-at2.type_inv }) ∙ c.stored-at2.ensures in
     rw (x, y) (putting_on _ _ _ _ _ _ _ _ _ _ _ l.invariant c.before.before.loop-test.true)
 
 same_length : tie.Need-same-length invariant-loop decreases-loop

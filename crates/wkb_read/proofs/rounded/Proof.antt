@@ -8,7 +8,7 @@ use Rattle.wkb_read.proofs.rounded.Statement.{statement}
 use Rattle.wkb_read.proofs.rounded.Tie as tie
 
 returns : tie.Need-returns
-returns c = to_z-of_z {w = w64} (record { sfits = c.round.type-inv }) ∙ c.round.ensures.1 ∙ ap (λ (x : Float). round_to 63 (mul binary64 x c.before.before.before.args.scale)) c.before.double-at.ensures
+returns c = to_z-of_z {w = w64} (record { sfits = c.round.type_inv }) ∙ c.round.ensures.1 ∙ ap (λ (x : Float). round_to 63 (mul binary64 x c.before.before.before.args.scale)) c.before.double-at.ensures
 
 pub rounded-spec : {M : Type 1} → statement M
 rounded-spec = tie.close (tie.spec (λ c κs. search rules) (λ c κs. search rules) returns)

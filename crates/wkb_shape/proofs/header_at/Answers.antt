@@ -25,7 +25,7 @@ returns-in-Stopped c =
     let b = c in
     let d = b in
     let a = d.args in
-    header_stopped a.bytes.now a.at _ _ _ (sym d.order_at-ordered.ensures ∙ d.in-As.is) (sym b.past_type-typed.ensures ∙ c.type-inv.given.1)
+    header_stopped a.bytes.now a.at _ _ _ (sym d.order_at-ordered.ensures ∙ d.in-As.is) (sym b.past_type-typed.ensures ∙ c.in-Stopped.is)
 
 pub returns-in-Past : goal.returns-in-Past
 returns-in-Past c =

@@ -30,7 +30,7 @@ returns-in_default c =
     let p = c in
     let l = p.loop-k in
     let a = p.args in
-    let e = ap (λ (n : ℕ). end_of (points a.bytes.now a.order n (l.at + 4))) (sym p.u32_at-points.ensures) ∙ sym p.past-Points.ensures ∙ c.in_default.is in
+    let e = ap (λ (n : ℕ). end_of (points a.bytes.now a.order n (l.at + 4))) (sym p.u32_at-points.ensures) ∙ sym p.past_points-walked.ensures ∙ c.in_default.is in
     c.in_default.is ∙ pass_stop _ _ _ _ _ _ l.invariant p.loop-k-test.true _ p.if-bytes-at-lt4.false e
 
 pub loop-k-preserved : goal.loop-k-preserved
@@ -39,7 +39,7 @@ loop-k-preserved c =
     let p = c in
     let l = p.loop-k in
     let a = p.args in
-    let e = ap (λ (n : ℕ). end_of (points a.bytes.now a.order n (l.at + 4))) (sym p.u32_at-points.ensures) ∙ sym p.past-Points.ensures ∙ c.in-Past.is in
+    let e = ap (λ (n : ℕ). end_of (points a.bytes.now a.order n (l.at + 4))) (sym p.u32_at-points.ensures) ∙ sym p.past_points-walked.ensures ∙ c.in-Past.is in
     pass_on _ _ _ _ _ _ l.invariant p.loop-k-test.true _ p.if-bytes-at-lt4.false e
 
 pub returns : goal.returns
