@@ -1,7 +1,6 @@
 -- 01, "Stripes" and "What a call says when it says no": what building answers, and what it leaves in the room lent for the stripes, two numbers a
 -- stripe, and for the list.
 use Rattle.std.specs.Prelude.{Bool, cond, ◌&&◌, List, ℕ, ◌*◌, length, replicate, leb, ltb, ℤ, Float}
-use Rattle.answers.specs.declared.Refusal.{Refusal}
 use Rattle.answers.specs.declared.Refusal.TheVariants.{NoRoom}
 use Rattle.room.specs.Room.{pad}
 use Rattle.rings.specs.declared.Checked.{Checked}
