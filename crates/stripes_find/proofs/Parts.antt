@@ -1,10 +1,10 @@
 -- The part of a stripe, by the tests on the way to it, and what is then read. Assumes nothing.
-use mathlib.Core.Path.{◌≡◌, refl, sym, ap, ap₂, ◌∙◌}
+use mathlib.Core.Path.{◌≡◌, refl, sym, ap, ap₂}
 use mathlib.Core.Bool.{Bool, true, false, cond}
-use mathlib.Core.List.{List, [], ◌∷◌}
-use Prim.Native.Nat.{ℕ, ◌+◌, ◌-◌, ◌*◌, ◌/◌, ◌≤◌, ◌<◌}
+use mathlib.Core.List.{List, []}
+use Prim.Native.Nat.{ℕ, ◌+◌, ◌*◌, ◌/◌, ◌≤◌, ◌<◌}
 use native.Mathlib.Omega.{arith}
-use lib.ListN.{length, get_or, take, drop}
+use lib.ListN.{length, get_or}
 use lib.Seq.{slice}
 use lib.Dec.{ltb, eqb}
 use lib.Ieee.{Float}
@@ -12,7 +12,7 @@ use borrow.Author.Tests.{eq-eqb, ne_eqb, lt-ltb, le-ltb, ltb-false}
 use Rattle.stripes_place.specs.Stripe.{stripe_of}
 use Rattle.stripes_find.specs.declared.Part.{Part}
 use Rattle.stripes_find.specs.declared.Part.TheVariants.{Run, Broken}
-use Rattle.stripes_find.specs.Search.{Reading, Ending, damaged_at, found_in, end_in, read_stripe}
+use Rattle.stripes_find.specs.Search.{Reading, damaged_at, found_in, end_in, read_stripe}
 use Rattle.stripes_find.specs.Inner.Part.{part_at}
 
 module _ (least height : Float) (stripes : List ℕ) (long : ℕ) (y : Float) where

@@ -1,10 +1,9 @@
 -- What a listing answers, by how what was found meets the room. Assumes nothing.
-use mathlib.Core.Path.{◌≡◌, refl, sym, ap, ap₂, ◌∙◌}
-use mathlib.Core.Bool.{Bool, true, false, cond}
+use mathlib.Core.Path.{◌≡◌}
+use mathlib.Core.Bool.{true, false, cond}
 use mathlib.Core.List.{List, []}
 use Prim.Native.Nat.{ℕ, ◌≤◌, ◌<◌}
-use native.Mathlib.Omega.{arith}
-use lib.ListN.{length, replicate}
+use lib.ListN.{length}
 use lib.Dec.{leb}
 use lib.Ieee.{Float}
 use lib.Ieee.Scale.{finite}
@@ -12,13 +11,12 @@ use borrow.Author.Tests.{le-leb, lt-leb}
 use Rattle.answers.specs.declared.Refusal.{Refusal}
 use Rattle.answers.specs.declared.Refusal.TheVariants.{BadHeight, NoRoom, Damaged}
 use Rattle.room.specs.Room.{pad}
-use Rattle.room.proofs.Fill.{pad_none}
 use Rattle.rings.specs.declared.Checked.{Checked}
 use Rattle.rings.specs.declared.Checked.TheVariants.{Sound, Faulty}
 use Rattle.rings.specs.Ring.{side_at, segments, holds_height}
 use Rattle.stripes_find.specs.declared.StripesListed.TheVariants.{StripesFound, StripesUnlisted}
 use Rattle.stripes_find.specs.Search.{Reading, Ending, complete, damaged_at, outside, read_stripe, searched_by, searched}
-use Rattle.stripes_find.specs.Listing.{Outcome, refused, ended, poured, stripes_listed_by}
+use Rattle.stripes_find.specs.Listing.{refused, ended, poured, stripes_listed_by}
 
 module _ (found : List ℕ) (ending : Ending) (out : List ℕ) where
   pub poured_whole : length found ≤ length out → ending ≡ complete

@@ -1,17 +1,16 @@
 -- Reading listed numbers one at a time. Assumes nothing.
-use mathlib.Core.Path.{◌≡◌, refl, sym, ap, ap₂, ◌∙◌}
-use mathlib.Core.Bool.{Bool, true, false, cond}
+use mathlib.Core.Path.{◌≡◌, refl, sym, ap, ◌∙◌}
+use mathlib.Core.Bool.{Bool, true, false}
 use mathlib.Core.List.{List, [], ◌∷◌}
-use Prim.Native.Nat.{ℕ, suc, ◌+◌, ◌-◌, ◌*◌, ◌≤◌, ◌<◌}
+use Prim.Native.Nat.{ℕ, ◌+◌, ◌≤◌, ◌<◌}
 use native.Mathlib.Omega.{arith}
 use native.Mathlib.Numerals.{add-one}
 use lib.ListN.{length, get_or, set}
 use lib.Seq.{slice, slice_empty, slice-cons}
-use lib.Dec.{ltb}
 use borrow.Author.Tests.{lt-ltb, le-ltb}
 use Rattle.room.specs.Numbers.{cons_if}
 use Rattle.room.specs.Room.{write}
-use Rattle.stripes_find.specs.Search.{Ending, complete, damaged_at, found_in, end_in}
+use Rattle.stripes_find.specs.Search.{complete, damaged_at, found_in, end_in}
 
 module _ (n : ℕ) (meets : ℕ → Bool) (list : List ℕ) (past : ℕ) where
   pub found_done : found_in n meets (slice past past list) ≡ []
