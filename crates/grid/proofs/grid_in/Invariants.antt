@@ -4,8 +4,6 @@ use mathlib.Core.Path.{◌≡◌}
 use mathlib.Core.Bool.{Bool, true, false}
 use mathlib.Core.List.{List}
 use lib.IntN.{ℤ}
-use mir.Syntax.{w64}
-use mir.Val.{to_z}
 use Rattle.room.specs.Numbers.{up_to}
 use Rattle.rings.specs.RingTest.{test_from}
 use Rattle.grid.specs.Rings.{on_at, flip_at}
@@ -15,10 +13,9 @@ use Rattle.grid.proofs.grid_in.Given as goal
 abbrev pub rest : List ℤ → ℕ → ℤ → ℤ → Bool → Bool → ℕ → Bool
 rest ring n px py edge answer i = test_from (on_at ring px py) (flip_at ring px py) edge answer (up_to (λ j. true) n i)
 
--- the point stands in the invariant by its bits
 abbrev pub invariant-loop-i : goal.invariant-loop-i
 invariant-loop-i l =
-    (l.i ≤ l.n) × (rest l.coords l.n (to_z w64 l.px) (to_z w64 l.py) l.edge l.answer l.i ≡ rest l.coords l.n (to_z w64 l.px) (to_z w64 l.py) l.edge false 0)
+    (l.i ≤ l.n) × (rest l.coords l.n l.px l.py l.edge l.answer l.i ≡ rest l.coords l.n l.px l.py l.edge false 0)
 
 abbrev pub decreases-loop-i : goal.decreases-loop-i
 decreases-loop-i l = l.n - l.i
