@@ -13,7 +13,7 @@ use Rattle.cast_test.specs.declared.Seen.{Seen}
 use Rattle.cast_test.specs.Test.{test_of}
 use Rattle.cast_test.specs.Inner.Steps.{step_of}
 use Rattle.cast_test.proofs.Steps.{settled, settled_step, settled_done, settled_none}
-use Rattle.stripes_find.specs.Search.{Ending, complete, damaged_at, found_in, end_in}
+use Rattle.stripes_find.specs.Search.{complete, damaged_at, found_in, end_in}
 use Rattle.stripes_find.proofs.Reading.{found_done, end_done, found_more, end_more, end_broken}
 
 module _ (ring : ℕ → Float) (p : Point) (edge : Bool) (n : ℕ) (list : List ℕ) (start past : ℕ) where
