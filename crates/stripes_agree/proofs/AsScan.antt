@@ -1,6 +1,6 @@
 -- The ring test by stripes, with the index built from the ring, is the ring test of the segments whose own height range holds the point's
 -- height: the scan's, for every float point and both edge rules. Assumes nothing.
-use mathlib.Core.Path.{◌≡◌, refl, sym, ap, ◌∙◌}
+use mathlib.Core.Path.{◌≡◌, refl, ap, ◌∙◌}
 use mathlib.Core.Bool.{Bool, true, false, cond, ◌&&◌}
 use mathlib.Core.List.{List}
 use Prim.Native.Nat.{ℕ, ◌*◌}

@@ -1,13 +1,12 @@
 -- What a search finds in an index as built: the stripe's part, tested. Assumes nothing.
 use mathlib.Core.Path.{◌≡◌, refl, sym, ap, ap₂, ◌∙◌}
-use mathlib.Core.List.{List, [], ◌∷◌, ◌++◌, append_assoc, append-nil}
+use mathlib.Core.List.{List, [], ◌∷◌, ◌++◌, append_assoc}
 use mathlib.Core.Logic.{⊎_elim}
 use Prim.Native.Nat.{ℕ, zero, suc, ◌+◌, ◌-◌, ◌*◌, ◌/◌, ◌^◌, ◌≤◌, ◌<◌}
 use native.Mathlib.Omega.{arith}
 use mathlib.Core.Bool.{Bool, true, false, ◌&&◌}
-use lib.ListN.{length, get_or, take, drop, length-append, get_or-append}
-use lib.Seq.{slice, take-append-le, take-append-add, take-append_seam, drop-append_seam}
-use lib.Dec.{ltb}
+use lib.ListN.{length, get_or, drop, length-append}
+use lib.Seq.{slice, take-append-add, take-append_seam, drop-append_seam}
 use lib.Ieee.{Float}
 use borrow.Author.Tests.{lt-ltb, ne_eqb, le-ltb}
 use Rattle.room.specs.Numbers.{cons_if, keep, up_to}
@@ -18,7 +17,7 @@ use Rattle.stripes_index.specs.Joined.{joined}
 use Rattle.stripes_index.specs.Index.{part_of, list_of, table_of}
 use Rattle.stripes_index.proofs.Joined.{joined_rises, joined_get}
 use Rattle.stripes_index.proofs.Pairs.{pairs_length}
-use Rattle.stripes_find.specs.Search.{Reading, Ending, complete, found_in, end_in, read_stripe}
+use Rattle.stripes_find.specs.Search.{Ending, complete, found_in, end_in, read_stripe}
 
 -- ---- of numbers by rising number, all below n, the found are those that meet both tests
 module _ (n : ℕ) (t meets : ℕ → Bool) where
