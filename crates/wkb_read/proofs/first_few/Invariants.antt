@@ -1,0 +1,10 @@
+use Prim.Native.Nat.{◌-◌}
+use Rattle.wkb_read.specs.Judged.{enough}
+use Rattle.wkb_read.proofs.Walk.{Going}
+use Rattle.wkb_read.proofs.first_few.Given as goal
+
+abbrev pub invariant-loop-k : goal.invariant-loop-k
+invariant-loop-k l = Going l.bytes l.order enough l.n l.at l.k
+
+abbrev pub decreases-loop-k : goal.decreases-loop-k
+decreases-loop-k l = l.n - l.k
