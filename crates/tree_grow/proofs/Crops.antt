@@ -10,7 +10,7 @@ use lib.Ieee.{Float}
 use Rattle.boxes.specs.declared.Rect.{Rect}
 use Rattle.boxes.specs.Quads.{quad_bounds}
 use Rattle.varint.specs.Leb128.{encode}
-use Rattle.tree.specs.Tree.{Tree, leaf, grown, own_bytes, sized, packed, nodes, in_order}
+use Rattle.tree.specs.Tree.{Tree, leaf, grown, own_bytes, packed, nodes, in_order}
 use Rattle.tree_part.specs.declared.Shares.{Shares}
 use Rattle.tree_grow.specs.declared.Growth.{Growth}
 use Rattle.tree_grow.specs.declared.Growth.TheVariants.{Stands, Cramped}
