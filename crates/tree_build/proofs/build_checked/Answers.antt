@@ -13,27 +13,21 @@ use Rattle.tree_build.proofs.build_checked.Goals as goal
 
 pub returns-then-work-n : goal.returns-then-work-n
 returns-then-work-n c =
-    let b = c in
-    packed_short (wide b.args.ring.now) b.args.points b.args.bytes.now b.args.work.now c.if-work-n.true
-    ∙ ap (λ (x : List ℕ). (TreeRefused NoRoom, x, replicate (length b.args.work.now) 0)) (sym b.requires.bytes_value)
+    packed_short (wide c.args.ring.now) c.args.points c.args.bytes.now c.args.work.now c.if-work-n.true
+    ∙ ap (λ (x : List ℕ). (TreeRefused NoRoom, x, replicate (length c.args.work.now) 0)) (sym c.requires.bytes_value)
 
 pub slice_bounds-grow_and_pack-end : goal.slice_bounds-grow_and_pack-end
 slice_bounds-grow_and_pack-end c =
-    let b = c in
-    sym (zeros_part 4096 (b.args.points - 1) (omega (arith, b.requires.le_points.1)))
+    sym (zeros_part 4096 (c.args.points - 1) (omega (arith, c.requires.le_points.1)))
 
 pub grow_and_pack-requires : goal.grow_and_pack-requires
 grow_and_pack-requires c =
-    let b = c in
     record {
-      le_points = (b.requires.le_points.0, b.requires.le_points.1, b.requires.le_points.2, zeros_part 4096 (b.args.points - 1) (omega (arith, b.requires.le_points.1)));
-      bytes_value = b.requires.bytes_value;
+      le_points = (c.requires.le_points.0, c.requires.le_points.1, c.requires.le_points.2, zeros_part 4096 (c.args.points - 1) (omega (arith, c.requires.le_points.1)));
+      bytes_value = c.requires.bytes_value;
     }
 
 pub returns : goal.returns
 returns c =
-    let k1 = c in
-    let k2 = k1 in
-    let b = k2 in
-    packed_rest (wide b.args.ring.now) b.args.points b.args.bytes.now b.args.work.now k2.if-work-n.false _ (rest_length (b.args.points - 1) b.args.work.now)
-    ∙ ap (λ (o : Bytes). (o.0, o.1, replicate (length b.args.work.now) 0)) k1.grow_and_pack.ensures
+    packed_rest (wide c.args.ring.now) c.args.points c.args.bytes.now c.args.work.now c.if-work-n.false _ (rest_length (c.args.points - 1) c.args.work.now)
+    ∙ ap (λ (o : Bytes). (o.0, o.1, replicate (length c.args.work.now) 0)) c.grow_and_pack.ensures

@@ -4,6 +4,5 @@ use Rattle.tree_grow.proofs.grow_leaf.Goals as goal
 
 pub returns : goal.returns
 returns c =
-    let s = c in
     let o = c.own_size-size in
-    leaf_grew s.args.run.now s.args.rest.now _ o.result s.requires.1 o.ensures.0 c.write_record.ensures
+    leaf_grew c.args.run.now c.args.rest.now _ o.result c.requires.1 o.ensures.0 c.write_record.ensures

@@ -6,12 +6,10 @@ use Rattle.tree_grow.proofs.grow_tree.Goals as goal
 
 pub returns-in-Stands : goal.returns-in-Stands
 returns-in-Stands c =
-    let s = c in
-    tree_stood (wide s.args.ring.now) max_depth s.args.bounds s.args.run.now s.requires.0
+    tree_stood (wide c.args.ring.now) max_depth c.args.bounds c.args.run.now c.requires.0
     (stood c.grow.ensures c.in-Stands.is)
 
 pub returns-in-Cramped : goal.returns-in-Cramped
 returns-in-Cramped c =
-    let s = c in
-    tree_full (wide s.args.ring.now) max_depth s.args.bounds s.args.run.now s.requires.0 s.args.rest.now
+    tree_full (wide c.args.ring.now) max_depth c.args.bounds c.args.run.now c.requires.0 c.args.rest.now
     (cramped c.grow.ensures c.in-Cramped.is)

@@ -4,5 +4,4 @@ use Rattle.tree_grow.proofs.write_record.Goals as goal
 
 pub returns : goal.returns
 returns c =
-    let s = c in
-    six_stored s.args.rest.now _ _ _ _ _ _ s.requires.in_bounds.0
+    six_stored c.args.rest.now _ _ _ _ _ _ c.requires.in_bounds.0

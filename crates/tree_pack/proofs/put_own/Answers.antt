@@ -9,29 +9,23 @@ use Rattle.tree_pack.proofs.Own.{putting, putting_fits, putting_more, putting_do
 use Rattle.tree_pack.proofs.put_own.Goals as goal
 
 pub write_uvarint-p-requires : goal.write_uvarint-p-requires
-write_uvarint-p-requires c = let b = c in omega (arith, b.requires, own_length b.args.own.now)
+write_uvarint-p-requires c = omega (arith, c.requires, own_length c.args.own.now)
 
 pub loop-i-init : goal.loop-i-init
 loop-i-init c =
-    let k = c in
-    let b = k in
-    putting _ _ _ (omega (arith, k.write_uvarint-p.ensures.0, b.requires, own_length b.args.own.now, ap length k.write_uvarint-p.ensures.1, write_length b.args.out.now b.args.at (encode (length b.args.own.now))))
+    putting _ _ _ (omega (arith, c.write_uvarint-p.ensures.0, c.requires, own_length c.args.own.now, ap length c.write_uvarint-p.ensures.1, write_length c.args.out.now c.args.at (encode (length c.args.own.now))))
 
 pub write_uvarint-p-requires-in-loop-i : goal.write_uvarint-p-requires-in-loop-i
 write_uvarint-p-requires-in-loop-i c =
-    let l = c in
-    omega (arith, putting_fits _ _ _ _ _ _ _ l.loop-i.invariant c.loop-i-test.true, ap (λ (x : ℕ). length (encode x)) c.difference.ensures)
+    omega (arith, putting_fits _ _ _ _ _ _ _ c.loop-i.invariant c.loop-i-test.true, ap (λ (x : ℕ). length (encode x)) c.difference.ensures)
 
 pub loop-i-preserved : goal.loop-i-preserved
 loop-i-preserved c =
-    let k = c in
-    let d = k.difference.ensures in
-    let l = k in
-    putting_more _ _ _ _ _ _ _ l.loop-i.invariant k.loop-i-test.true _ _ (k.write_uvarint-p-in-loop-i.ensures.1 ∙ rw d) (k.write_uvarint-p-in-loop-i.ensures.0 ∙ rw d)
+    let d = c.difference.ensures in
+    putting_more _ _ _ _ _ _ _ c.loop-i.invariant c.loop-i-test.true _ _ (c.write_uvarint-p-in-loop-i.ensures.1 ∙ rw d) (c.write_uvarint-p-in-loop-i.ensures.0 ∙ rw d)
 
 pub returns : goal.returns
 returns c =
-    let l = c in
-    let k = l.write_uvarint-p in
-    let d = putting_done _ _ _ _ _ _ _ l.loop-i.invariant c.loop-i-test.false in
+    let k = c.write_uvarint-p in
+    let d = putting_done _ _ _ _ _ _ _ c.loop-i.invariant c.loop-i-test.false in
     own_written _ _ _ _ _ _ _ k.ensures.1 k.ensures.0 d.1 d.0

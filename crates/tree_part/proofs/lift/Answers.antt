@@ -7,23 +7,19 @@ loop-i-init c = lifting _ _ _
 
 pub bounds-run-p : goal.bounds-run-p
 bounds-run-p c =
-    let l = c in
-    lifting_room _ _ _ _ _ _ l.loop-i.invariant l.requires l.loop-i-test.true c.if-x-class.true
+    lifting_room _ _ _ _ _ _ c.loop-i.invariant c.requires c.loop-i-test.true c.if-x-class.true
 
 pub bounds-run-p-then-x-class : goal.bounds-run-p-then-x-class
 bounds-run-p-then-x-class c =
-    let l = c in
-    lifting_room _ _ _ _ _ _ l.loop-i.invariant l.requires l.loop-i-test.true c.if-x-class.true
+    lifting_room _ _ _ _ _ _ c.loop-i.invariant c.requires c.loop-i-test.true c.if-x-class.true
 
 pub loop-i-preserved-then-x-class : goal.loop-i-preserved-then-x-class
 loop-i-preserved-then-x-class c =
-    let l = c in
-    lifting_yes _ _ _ _ _ _ l.loop-i.invariant l.loop-i-test.true c.if-x-class.true
+    lifting_yes _ _ _ _ _ _ c.loop-i.invariant c.loop-i-test.true c.if-x-class.true
 
 pub loop-i-preserved : goal.loop-i-preserved
 loop-i-preserved c =
-    let l = c in
-    lifting_no _ _ _ _ _ _ l.loop-i.invariant l.loop-i-test.true c.if-x-class.false
+    lifting_no _ _ _ _ _ _ c.loop-i.invariant c.loop-i-test.true c.if-x-class.false
 
 pub returns : goal.returns
 returns c = lifting_done _ _ _ _ _ _ c.loop-i.invariant c.loop-i-test.false

@@ -10,18 +10,12 @@ use Rattle.tree_part.proofs.share_out.Goals as goal
 
 pub lift_all-shares-requires : goal.lift_all-shares-requires
 lift_all-shares-requires c =
-    let m = c in
-    let s = m in
-    let a = s.args in rw m.mark_all.ensures (classes_fill (wide a.ring.now) a.bounds _ a.run.now s.requires)
+    let a = c.args in rw c.mark_all.ensures (classes_fill (wide a.ring.now) a.bounds _ a.run.now c.requires)
 
 pub returns : goal.returns
 returns c =
-    let t = c in
-    let l = t in
-    let m = l in
-    let s = m in
-    let e = ap (map lower) m.mark_all.ensures in
+    let e = ap (map lower) c.mark_all.ensures in
     sym
     (ap₂ (λ (r : Shares) (xs : List ℕ). (r, xs))
-    (l.lift_all-shares.ensures.value ∙ ap class_counts e ∙ counts_shares _ _ _ _ s.requires)
-    (t.settle.ensures ∙ l.lift_all-shares.ensures.run_after ∙ ap classes e ∙ classes_parts _ _ _ _ s.requires))
+    (c.lift_all-shares.ensures.value ∙ ap class_counts e ∙ counts_shares _ _ _ _ c.requires)
+    (c.settle.ensures ∙ c.lift_all-shares.ensures.run_after ∙ ap classes e ∙ classes_parts _ _ _ _ c.requires))
