@@ -1,0 +1,15 @@
+-- `outline_build::index_rings` meets its contract: between two rings the rooms stand as `Standing` says. Assumes nothing.
+use mathlib.Core.Path.{◌≡◌}
+use Prim.Native.Nat.{◌-◌, ◌≤◌}
+use lib.ListN.{length}
+use Rattle.outline_build.specs.Inner.Standing.{Standing}
+use Rattle.outline_build.proofs.index_rings.Given as goal
+
+abbrev pub invariant-loop-k : goal.invariant-loop-k
+invariant-loop-k l =
+    (l.k ≤ length l.sizes) × Standing l.options l.sizes l.coords l.initial.table l.initial.spans l.initial.stripes l.initial.list l.initial.bytes l.initial.work l.k l.at l.from l.table l.spans l.stripes l.list l.bytes l.work
+    × (length l.table ≡ length l.initial.table) × (length l.spans ≡ length l.initial.spans) × (length l.stripes ≡ length l.initial.stripes) × (length l.list ≡ length l.initial.list)
+    × (length l.bytes ≡ length l.initial.bytes) × (length l.work ≡ length l.initial.work)
+
+abbrev pub decreases-loop-k : goal.decreases-loop-k
+decreases-loop-k l = length l.sizes - l.k
