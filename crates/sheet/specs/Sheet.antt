@@ -25,8 +25,7 @@ use Rattle.outline_check.specs.declared.RaycastMode.{RaycastMode}
 use Rattle.outline_check.specs.declared.RaycastMode.TheVariants.{Float as FloatMode, Integer as IntegerMode}
 use Rattle.outline_check.specs.Outline.{outline_of}
 use Rattle.outline_record.specs.Record.{boxes_of}
-use Rattle.outline_ring.specs.RingIndex.{Indexes, lent}
-use Rattle.outline_ask.specs.declared.Query.{Query}
+use Rattle.outline_ring.specs.RingIndex.{lent}
 use Rattle.outline_ask.specs.declared.Query.TheVariants.{Grid}
 use Rattle.outline_ask.specs.Query.{scaled_query}
 use Rattle.outline_ask.specs.Inside.{inside_of}
