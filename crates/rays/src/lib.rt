@@ -3,9 +3,9 @@
 // (`raycast_unique` of proofs/Rest.antt), and give a definition that computes it.
 #![tactic(auto)]
 
-ghost use Rattle.std.specs.Prelude.{◌≡◌, ◌&&◌};
+ghost use Rattle.std.specs.Prelude.{◌≡◌, ◌&&◌, if◌then◌else◌};
 ghost use Rattle.std.specs.Float.Ieee.{eq};
-ghost use Rattle.rays.specs.Raycast.{if◌then◌else◌, at, within, steep, last_steps, lift, cast_of, ends, Raycast, raycast_of};
+ghost use Rattle.rays.specs.Raycast.{at, within, steep, last_steps, lift, cast_of, ends, Raycast, raycast_of};
 ghost use Rattle.rays.specs.declared.RaycastResult.TheVariants.{Inside, Neither};
 
 use boxes::{Point, Segment};
