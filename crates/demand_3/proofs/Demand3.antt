@@ -21,7 +21,8 @@ use Rattle.stripes_build.specs.declared.StripesStats.{StripesStats}
 use Rattle.stripes_find.specs.declared.StripesListed.TheVariants.{StripesFound, StripesUnlisted}
 use Rattle.stripes_find.specs.Listing.{stripes_listed}
 use Rattle.stripes_test.specs.Test.{stripes_tested}
-use Rattle.stripes_agree.proofs.Demand.{built_sound, demand_3 as stripes-demand}
+use Rattle.stripes_agree.proofs.Demand.{built_sound}
+use Rattle.stripes_agree.proofs.Listed.{demand_3 as stripes-demand}
 use Rattle.stripes_agree.proofs.AsScan.{tests_as_scan}
 use Rattle.tree.specs.Search.{ends}
 use Rattle.tree.proofs.Searchable.{stored}

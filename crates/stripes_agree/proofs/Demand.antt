@@ -4,12 +4,11 @@ use mathlib.Core.Path.{◌≡◌, refl, sym, ap, ap₂, ◌∙◌}
 use mathlib.Core.List.{List, [], ◌++◌, append-nil}
 use Prim.Native.Nat.{ℕ, ◌+◌, ◌*◌, ◌≤◌, ◌<◌}
 use native.Mathlib.Omega.{arith}
-use mathlib.Core.Bool.{Bool, true}
+use mathlib.Core.Bool.{Bool}
 use lib.ListN.{length, take}
 use lib.Seq.{take-append_seam}
 use lib.IntN.{ℤ}
 use lib.Ieee.{Float}
-use lib.Ieee.Scale.{finite}
 use Rattle.room.specs.Numbers.{up_to}
 use Rattle.room.specs.Room.{pad}
 use Rattle.rings.specs.Ring.{wide, side_at, segments, holds_height, meeting}
@@ -25,9 +24,7 @@ use Rattle.stripes_index.specs.Index.{part_of, list_of, table_of, least_y, heigh
 use Rattle.stripes_build.specs.Build.{crosses_in, stripes_built}
 use Rattle.stripes_index.proofs.Pairs.{pairs_length}
 use Rattle.stripes_build.proofs.Building.{Indexed, built_is}
-use Rattle.stripes_find.specs.Search.{Reading, complete, searched}
-use Rattle.stripes_find.specs.Listing.{poured, stripes_listed}
-use Rattle.stripes_find.proofs.Pouring.{listed_sound}
+use Rattle.stripes_find.specs.Search.{complete, searched}
 use Rattle.stripes_agree.proofs.Outside.{coordinates, not_out}
 use Rattle.stripes_agree.proofs.Law.{found_by}
 
@@ -72,11 +69,3 @@ module _ (ring : List ℤ) (points threshold : ℕ) (nums : I32s ring) (stripes 
       rw (t, u, b.from, b.tall)
       (found_all ring n m (omega (arith, a.enough, a.sizes)) nums (omega (arith, some_stripes (wide ring) n)) b.few [] y
       ∙ ap (λ (xs : List ℕ). record { found = xs; ending = complete }) (sym (meeting_is (wide ring) points y)))
-
-  -- so the listing call lists them, in any room that takes them
-  pub demand_3 : (out : List ℕ) → finite y ≡ true
-      → stripes_listed ring points least height (take (stats.stripes * 2) s) (take stats.entries l) y out
-      ≡ poured (record { found = meeting (wide ring) points y; ending = complete }) out
-  demand_3 out f =
-      listed_sound _ (wide ring) points least height (take (stats.stripes * 2) s) (take stats.entries l) y out built_sound f
-      ∙ ap (λ (r : Reading). poured r out) finds_meeting
