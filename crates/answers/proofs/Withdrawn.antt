@@ -1,5 +1,4 @@
 -- Refusal 6 is withdrawn and its number is given to nothing else: whatever refuses, the number is not 6. Assumes nothing.
-use Prim.Native.Nat.{ℕ}
 use mathlib.Core.Path.{◌≡◌, sym, ◌∙◌}
 use native.Mathlib.Omega.{arith}
 use contract.Lifetimes.{Lfts}

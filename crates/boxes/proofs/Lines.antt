@@ -1,6 +1,6 @@
 -- Which boxes meet a height line. Assumes nothing.
-use mathlib.Core.Path.{◌≡◌, refl, sym, ap, ◌∙◌, subst}
-use mathlib.Core.Bool.{Bool, true, false, not, cond, ◌&&◌, ◌||◌, and-true}
+use mathlib.Core.Path.{◌≡◌, refl, sym, ◌∙◌, subst}
+use mathlib.Core.Bool.{Bool, true, false, not, ◌&&◌, ◌||◌, and-true}
 use lib.Dec.{T}
 use lib.Ieee.{Float, is_nan, lt, le}
 use lib.Ieee.Fits.{and_i, and_l, and_r}

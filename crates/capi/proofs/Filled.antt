@@ -1,5 +1,4 @@
 -- What the loop that stores zeros from the start on comes to.
-use Prim.Native.Nat.{ℕ}
 use mathlib.Core.Path.{◌≡◌}
 use mathlib.Core.List.{List}
 use native.Mathlib.Nat.{sub-zero}

@@ -1,15 +1,14 @@
 -- Signs and sizes: products, and the sign of a difference. Assumes nothing.
 use Prim.Native.Nat.{ℕ, zero, suc, ◌+◌, ◌*◌, ◌-◌, ◌<◌, ◌≤◌}
-use mathlib.Core.Path.{◌≡◌, refl, sym, ap, ap₂, ◌∙◌}
+use mathlib.Core.Path.{◌≡◌, sym, ap, ap₂, ◌∙◌}
 use mathlib.Core.Bool.{Bool, true, false, not, ◌&&◌, beq, true≢false, false≢true}
 use native.Mathlib.Omega.{arith}
 use native.Mathlib.Decide.{dec_lt}
 use lib.Dec.{ltb, eqb}
-use lib.IntN.{ℤ, pos, negsuc, neg_ℤ, ◌-ℤ◌, ◌*ℤ◌}
+use lib.IntN.{neg_ℤ, ◌-ℤ◌, ◌*ℤ◌}
 use borrow.Author.Tests.{lt-ltb, le-ltb, eqb-true}
 use Rattle.rings.proofs.Checks.{both}
 use Rattle.rings.proofs.Whole.{diff, diff_pos, diff_negsuc, diff_neg, diff_same, diff_sub, diff_mul}
-use Rattle.cross.specs.declared.Sign.{Sign}
 use Rattle.cross.specs.declared.Sign.TheVariants.{Below, Zero, Above}
 use Rattle.cross.specs.Cross.{sign_of}
 use Rattle.cross.specs.Inner.Signed.{signed}

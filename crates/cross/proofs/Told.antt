@@ -1,5 +1,5 @@
 -- What the sign of a whole number tells of it. Assumes nothing.
-use Prim.Native.Nat.{ℕ, zero, suc}
+use Prim.Native.Nat.{zero, suc}
 use mathlib.Core.Path.{◌≡◌, refl}
 use mathlib.Core.Bool.{true, false}
 use native.Mathlib.Omega.{arith}
@@ -7,7 +7,6 @@ use lib.IntN.{ℤ, pos, negsuc}
 use lib.Signed.{lt_z}
 use borrow.Author.Tests.{lt-ltb, ne_eqb}
 use Rattle.rings.specs.Checks.{eq_z}
-use Rattle.cross.specs.declared.Sign.{Sign}
 use Rattle.cross.specs.declared.Sign.TheVariants.{Below, Zero, Above}
 use Rattle.cross.specs.Cross.{sign_of}
 

@@ -1,5 +1,5 @@
 -- 01, "Whole-number test": the cross, in the mathematical integers, and its sign. The names are 01's: (ax, ay) and (bx, by) are the ends, (px, py) is p.
-use Rattle.std.specs.Prelude.{ℕ, zero, suc, ℤ, pos, negsuc, ◌-ℤ◌, ◌*ℤ◌}
+use Rattle.std.specs.Prelude.{zero, suc, ℤ, pos, negsuc, ◌-ℤ◌, ◌*ℤ◌}
 use Rattle.cross.specs.declared.Sign.{Sign}
 use Rattle.cross.specs.declared.Sign.TheVariants.{Below, Zero, Above}
 

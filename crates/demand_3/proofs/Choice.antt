@@ -18,7 +18,7 @@ use Rattle.stripes_build.specs.Build.{crosses_in}
 use Rattle.stripes_build.proofs.Building.{Indexed as Filled, built_is}
 use Rattle.tree.proofs.Searchable.{stored}
 use Rattle.tree_build.proofs.Demand.{used}
-use Rattle.outline_ring.specs.RingIndex.{Indexes, least_of, height_of, stripes_of, list_of, bytes_of, stripes_lie, tree_lies}
+use Rattle.outline_ring.specs.RingIndex.{Indexes, least_of, height_of, stripes_of, list_of, stripes_lie}
 use Rattle.outline_agree.specs.Own.{OwnStripes, OwnIndex}
 use Rattle.demand_3.specs.Demand3.{StripesOf, BuiltIndex}
 

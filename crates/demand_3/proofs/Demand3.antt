@@ -24,7 +24,6 @@ use Rattle.stripes_test.specs.Test.{stripes_tested}
 use Rattle.stripes_agree.proofs.Demand.{built_sound}
 use Rattle.stripes_agree.proofs.Listed.{demand_3 as stripes-demand}
 use Rattle.stripes_agree.proofs.AsScan.{tests_as_scan}
-use Rattle.tree.specs.Search.{ends}
 use Rattle.tree.proofs.Searchable.{stored}
 use Rattle.tree.proofs.Demand.{tree_found, tree_lists}
 use Rattle.tree_find.specs.declared.TreeListed.TheVariants.{TreeFound, TreeUnlisted}

@@ -21,8 +21,7 @@ use Rattle.outline_check.specs.Outline.{rings, size_at, ring_of}
 use Rattle.outline_index.specs.declared.BuildOptions.{BuildOptions}
 use Rattle.outline_index.specs.Parts.{has_stripes}
 use Rattle.outline_build.specs.declared.Built.TheVariants.{Indexed}
-use Rattle.outline_build.specs.declared.YStripes.{YStripes}
-use Rattle.outline_build.specs.declared.YStripes.TheVariants.{SomeStripes, NoStripes}
+use Rattle.outline_build.specs.declared.YStripes.TheVariants.{SomeStripes}
 use Rattle.outline_build.specs.declared.RingBuildStats.{RingBuildStats}
 use Rattle.outline_build.specs.Indexes.{indexes_built}
 use Rattle.outline_build.specs.Statistics.{told_by, stats_at, ring_stats}

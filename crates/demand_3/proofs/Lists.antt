@@ -1,8 +1,8 @@
 -- The numbers at which a test holds rise, and what the three listing calls do with their numbers is one and the same. Assumes nothing.
 use mathlib.Core.Path.{◌≡◌, refl}
 use mathlib.Core.Bool.{Bool, true, false, cond}
-use mathlib.Core.List.{List, [], ◌∷◌}
-use Prim.Native.Nat.{ℕ, zero, suc, ◌+◌, ◌-◌, ◌≤◌, ◌<◌}
+use mathlib.Core.List.{List, ◌∷◌}
+use Prim.Native.Nat.{ℕ, zero, suc, ◌+◌, ◌≤◌, ◌<◌}
 use native.Mathlib.Omega.{arith}
 use lib.Dec.{leb}
 use lib.ListN.{length, get_or, replicate}
@@ -11,7 +11,6 @@ use Rattle.answers.specs.declared.Refusal.TheVariants.{NoRoom}
 use Rattle.room.specs.Numbers.{cons_if, keep, up_to}
 use Rattle.room.specs.Room.{pad, room_of}
 use Rattle.rings.specs.Ring.{meeting}
-use Rattle.rings.specs.declared.Listed.{Listed}
 use Rattle.rings.specs.declared.Listed.TheVariants.{Count, Unlisted}
 use Rattle.rings.specs.Listing.{Outcome, listed_in}
 use Rattle.stripes_find.specs.declared.StripesListed.TheVariants.{StripesFound, StripesUnlisted}

@@ -1,6 +1,6 @@
 -- Points outside the segment's box: the test's answer needs no cross. Assumes nothing.
-use Prim.Native.Nat.{ℕ, suc, ◌+◌, ◌*◌, ◌-◌, ◌<◌, ◌≤◌}
-use mathlib.Core.Path.{◌≡◌, refl, sym, ap, ap₂, ◌∙◌}
+use Prim.Native.Nat.{ℕ, suc, ◌+◌, ◌*◌, ◌<◌, ◌≤◌}
+use mathlib.Core.Path.{◌≡◌, refl, sym, ◌∙◌}
 use mathlib.Core.Bool.{Bool, true, false, not, cond, ◌&&◌, ◌||◌, beq, true≢false, false≢true}
 use native.Mathlib.Omega.{arith}
 use native.Mathlib.Decide.{dec_le}
@@ -9,9 +9,8 @@ use lib.Dec.{ltb, leb, eqb}
 use lib.IntN.{ℤ}
 use lib.Signed.{lt_z}
 use borrow.Author.Tests.{lt-ltb, le-ltb, ltb-true, ltb-false, lt-leb, le-leb}
-use Rattle.rings.proofs.Whole.{diff, lt_shift, le_shift, shifted}
-use Rattle.grid.specs.declared.GridResult.{GridResult}
-use Rattle.grid.specs.declared.GridResult.TheVariants.{OnSegment, Flips, Passes}
+use Rattle.rings.proofs.Whole.{lt_shift, le_shift, shifted}
+use Rattle.grid.specs.declared.GridResult.TheVariants.{Flips, Passes}
 use Rattle.grid.specs.Grid.{between, in_box, straddles, result_of}
 use Rattle.grid.proofs.Shift.{from, plus, minus, between_n, straddles_n, on_n, flip_n, on_shift, flip_shift, plane}
 

@@ -1,13 +1,13 @@
 -- "On" exactly when p lies on the closed segment. Assumes nothing.
-use Prim.Native.Nat.{ℕ, zero, suc, ◌+◌, ◌*◌, ◌-◌, ◌<◌, ◌≤◌}
+use Prim.Native.Nat.{ℕ, zero, suc, ◌+◌, ◌*◌, ◌<◌, ◌≤◌}
 use mathlib.Core.Path.{◌≡◌, refl, sym, ap, ap₂, ◌∙◌}
 use mathlib.Core.Bool.{Bool, true, false, ◌&&◌, ◌||◌}
 use native.Mathlib.Omega.{arith}
 use native.Mathlib.Decide.{dec_le, ℕ_discrete}
-use native.Mathlib.Nat.{mul-le-mul_right, mul-le-mul_left, eq_of_mul-eq-mul_left, le_of_mul-le-mul_left}
+use native.Mathlib.Nat.{mul-le-mul_left, eq_of_mul-eq-mul_left, le_of_mul-le-mul_left}
 use lib.Dec.{eqb, leb}
 use lib.IntN.{ℤ, pos, ◌-ℤ◌, ◌*ℤ◌}
-use borrow.Author.Tests.{eqb-true, eq-eqb, le-leb, lt-leb}
+use borrow.Author.Tests.{eqb-true, eq-eqb, le-leb}
 use Rattle.rings.proofs.Whole.{diff, diff_pos, diff_same, diff_inj, diff_sub, diff_mul}
 use Rattle.rings.proofs.Checks.{both}
 use Rattle.grid.specs.Grid.{is_on}

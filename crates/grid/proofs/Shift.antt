@@ -1,16 +1,14 @@
 -- The whole_number test over ℕ. Any three whole numbers are numbers of ℕ less one and the same, and the test asks for differences alone:
 -- so all of it may be read in ℕ, where `omega` works. Assumes nothing.
 use Prim.Native.Nat.{ℕ, ◌+◌, ◌*◌, ◌-◌, ◌≤◌}
-use mathlib.Core.Path.{◌≡◌, refl, sym, ap, ap₂, ◌∙◌}
-use mathlib.Core.Bool.{Bool, true, false, not, cond, ◌&&◌, ◌||◌, beq}
+use mathlib.Core.Path.{◌≡◌}
+use mathlib.Core.Bool.{Bool, not, ◌&&◌, ◌||◌, beq}
 use native.Mathlib.Omega.{arith}
 use lib.Dec.{ltb, leb, eqb}
-use lib.IntN.{ℤ, pos, ◌-ℤ◌, ◌*ℤ◌}
-use lib.Signed.{lt_z, le_z}
-use Rattle.rings.specs.Checks.{eq_z}
+use lib.IntN.{ℤ}
 use Rattle.rings.proofs.Whole.{diff, diff_same, diff_sub, diff_mul, lt_shift, le_shift, is_zero, above_zero, shifted}
 use Rattle.cross.specs.Cross.{cross}
-use Rattle.grid.specs.Grid.{between, is_on, straddles, is_flip}
+use Rattle.grid.specs.Grid.{is_on, is_flip}
 
 -- a number at or above another is that and some more
 pub from : (P : ℕ → Type 0) (a b : ℕ) → a ≤ b → ((k : ℕ) → P (a + k)) → P b

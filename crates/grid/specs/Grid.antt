@@ -1,5 +1,5 @@
 -- 01, "Whole-number test", in the mathematical integers, for any ends and any p. The names are 01's: (ax, ay) and (bx, by) are the ends, (px, py) is p.
-use Rattle.std.specs.Prelude.{Bool, true, false, not, cond, ◌&&◌, ◌||◌, ℤ, pos}
+use Rattle.std.specs.Prelude.{Bool, not, cond, ◌&&◌, ◌||◌, ℤ, pos}
 use Rattle.std.specs.Bool.{beq}
 use Rattle.std.specs.Int.Signed.{lt_z, le_z}
 use Rattle.boxes.specs.declared.Segment.{Segment}

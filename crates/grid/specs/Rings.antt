@@ -1,6 +1,5 @@
 -- 01, "Ring test", by the whole_number test, on every segment of a ring: "Integer mode: .. without index".
 use Rattle.std.specs.Prelude.{ℕ, Bool, List, ℤ}
-use Rattle.boxes.specs.declared.Segment.{Segment}
 use Rattle.answers.specs.declared.Answer.{Answer}
 use Rattle.answers.specs.Answers.{said}
 use Rattle.rings.specs.Ring.{segment_at, segments, numbers}

@@ -1,18 +1,14 @@
 -- Demand 3 for an outline: with the record of its own boxes, and for each ring none, stripes, a tree or both, each built from that ring, the inside
 -- question has one and the same answer, which is that of the segments alone. Assumes nothing.
-use mathlib.Core.Path.{◌≡◌, refl, sym, ap, ap₂, ◌∙◌}
-use mathlib.Core.Bool.{Bool, true, false, ◌&&◌}
-use mathlib.Core.List.{List, [], ◌++◌}
-use Prim.Native.Nat.{ℕ, ◌+◌, ◌*◌, ◌≤◌, ◌<◌}
+use mathlib.Core.Path.{◌≡◌, refl, sym, ap, ◌∙◌}
+use mathlib.Core.Bool.{Bool, true, ◌&&◌}
+use mathlib.Core.List.{List, ◌++◌}
+use Prim.Native.Nat.{ℕ, ◌*◌, ◌<◌}
 use native.Mathlib.Omega.{arith}
 use lib.ListN.{length, length-append}
 use lib.IntN.{ℤ}
-use lib.Dec.{leb}
-use lib.Ieee.{Float}
 use lib.Ieee.Scale.{finite}
 use borrow.Author.Tests.{le-leb}
-use Rattle.answers.specs.declared.Answer.{Answer}
-use Rattle.answers.specs.Answers.{said}
 use Rattle.boxes.specs.declared.Point.{Point}
 use Rattle.boxes.specs.declared.Rect.{Rect}
 use Rattle.boxes.specs.Boxes.{holds}
@@ -21,20 +17,19 @@ use Rattle.rings.specs.declared.Checked.TheVariants.{Sound, Faulty}
 use Rattle.rings.specs.Ring.{wide, segments}
 use Rattle.rings.specs.I32s.{I32s}
 use Rattle.rings.specs.Checks.{when_sound}
-use Rattle.cast_test.specs.Test.{scan_of}
 use Rattle.tree.specs.Tree.{ring_box}
 use Rattle.outline_check.specs.declared.Outline.{Outline}
 use Rattle.outline_check.specs.Outline.{rings, size_at, ring_of}
-use Rattle.outline_check.specs.Rules.{outline_with, outline_checked}
+use Rattle.outline_check.specs.Rules.{outline_checked}
 use Rattle.outline_check.proofs.Sound.{Passed, sound_outline, ring_sound}
-use Rattle.outline_record.specs.Record.{boxes_of, box_numbers, rect_at, grid_box_holds}
+use Rattle.outline_record.specs.Record.{boxes_of, rect_at, grid_box_holds}
 use Rattle.outline_record.proofs.Boxes.{boxes_length}
 use Rattle.outline_record.proofs.Read.{boxes_at, rect_in}
-use Rattle.outline_ring.specs.RingIndex.{Indexes, lent, ring_asked}
+use Rattle.outline_ring.specs.RingIndex.{Indexes, ring_asked}
 use Rattle.outline_ask.specs.declared.Query.{Query}
 use Rattle.outline_ask.specs.declared.Query.TheVariants.{Outside, Float as FloatPlace, Grid as WholePlace}
 use Rattle.outline_ask.specs.Query.{scaled_query}
-use Rattle.outline_ask.specs.Inside.{through_rings, float_test, grid_test, asked_at, record_fits, inside_of}
+use Rattle.outline_ask.specs.Inside.{float_test, grid_test, asked_at, record_fits, inside_of}
 use Rattle.outline_ask.proofs.Queries.{float_finite}
 use Rattle.outline_agree.specs.Plain.{plain_test, in_exterior, grid_in_exterior, plain_asked, plain_inside}
 use Rattle.outline_agree.specs.Own.{OwnIndexes}

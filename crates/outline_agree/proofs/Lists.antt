@@ -1,9 +1,9 @@
 -- Demand 3 for lists: the scan, a ring's own stripes and a ring's own tree list the same segments, exactly those whose own closed height range holds
 -- y, each once. Assumes nothing.
-use mathlib.Core.Path.{◌≡◌, refl, sym, ap, ◌∙◌}
+use mathlib.Core.Path.{◌≡◌}
 use mathlib.Core.List.{List, [], append-nil}
 use mathlib.Core.Bool.{true}
-use Prim.Native.Nat.{ℕ, ◌-◌, ◌≤◌, ◌<◌}
+use Prim.Native.Nat.{ℕ, ◌≤◌, ◌<◌}
 use native.Mathlib.Omega.{arith}
 use lib.IntN.{ℤ}
 use lib.Ieee.{Float}
@@ -23,7 +23,7 @@ use Rattle.stripes_build.specs.Build.{crosses_in}
 use Rattle.stripes_find.specs.Search.{complete, searched as stripesSearched}
 use Rattle.stripes_agree.proofs.Demand.{found_all}
 use Rattle.tree.specs.Tree.{tree_of, packed, ring_box}
-use Rattle.tree.specs.Search.{Found, searched as treeSearched}
+use Rattle.tree.specs.Search.{searched as treeSearched}
 use Rattle.tree.proofs.Searchable.{stored}
 use Rattle.tree.proofs.Demand.{Whole, tree_found, tree_lists}
 use Rattle.outline_ring.specs.RingIndex.{Indexes, least_of, height_of, stripes_of, list_of, bytes_of}

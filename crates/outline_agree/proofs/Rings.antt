@@ -3,13 +3,11 @@
 use mathlib.Core.Path.{◌≡◌, refl, sym, ap, ap₂, ◌∙◌}
 use mathlib.Core.Bool.{Bool, true, false, cond, ◌&&◌}
 use mathlib.Core.List.{List}
-use Prim.Native.Nat.{ℕ, zero, suc, ◌+◌, ◌-◌, ◌*◌, ◌^◌, ◌≤◌, ◌<◌}
+use Prim.Native.Nat.{ℕ, zero, suc, ◌+◌, ◌-◌, ◌*◌, ◌≤◌, ◌<◌}
 use native.Mathlib.Omega.{arith}
-use lib.ListN.{length, get_or, take, drop}
+use lib.ListN.{drop}
 use lib.Seq.{get_or-take, get_or-drop}
 use lib.IntN.{ℤ, pos}
-use lib.Signed.{mag}
-use lib.Ieee.{Float}
 use lib.Ieee.Scale.{finite}
 use Rattle.answers.specs.declared.Answer.{Answer}
 use Rattle.answers.specs.declared.Answer.TheVariants.{No}
@@ -32,7 +30,7 @@ use Rattle.tree_find.proofs.Demand.{tests_as_scan}
 use Rattle.outline_check.specs.Outline.{rings, size_at, start_of, ring_of}
 use Rattle.outline_check.specs.Inner.Counted.{Counted}
 use Rattle.outline_check.proofs.Starts.{part_within, ring_length}
-use Rattle.outline_ring.specs.RingIndex.{Indexes, has_stripes, has_tree, least_of, height_of, stripes_of, list_of, bytes_of, ring_asked}
+use Rattle.outline_ring.specs.RingIndex.{Indexes, has_stripes, has_tree, least_of, height_of, stripes_of, list_of, ring_asked}
 use Rattle.outline_ring.proofs.Ways.{by_stripes_lem, by_tree_lem, by_scan_lem, stripes_read, tree_read}
 use Rattle.outline_ask.specs.Inside.{after_exterior, after_hole, holes_from, through_rings}
 use Rattle.outline_agree.specs.Own.{OwnStripes, OwnIndex}

@@ -1,5 +1,5 @@
 -- The ways of a query. Assumes nothing.
-use mathlib.Core.Path.{◌≡◌, refl, sym, ap, ap₂, ◌∙◌}
+use mathlib.Core.Path.{◌≡◌, refl, ap₂, ◌∙◌}
 use mathlib.Core.Bool.{Bool, true, false, cond, ◌&&◌}
 use Prim.Native.Nat.{ℕ}
 use native.Mathlib.Omega.{arith}
@@ -11,7 +11,6 @@ use Rattle.whole.specs.Round.{round_to}
 use Rattle.outline_check.specs.declared.Outline.{Outline}
 use Rattle.outline_check.specs.declared.RaycastMode.{RaycastMode}
 use Rattle.outline_check.specs.declared.RaycastMode.TheVariants.{Float as FloatMode, Integer as IntegerMode}
-use Rattle.outline_ask.specs.declared.Query.{Query}
 use Rattle.outline_ask.specs.declared.Query.TheVariants.{Outside, Float as FloatPlace, Grid as WholePlace}
 use Rattle.outline_ask.specs.Query.{finite_point, scaled_point, placed, scaled_query}
 

@@ -1,5 +1,5 @@
 -- Ring after ring: what the rooms hold before the first, after each, and after the last. Assumes nothing.
-use Prim.Native.Nat.{ℕ, zero, ◌+◌, ◌-◌, ◌*◌, ◌≤◌, ◌<◌}
+use Prim.Native.Nat.{ℕ, ◌+◌, ◌*◌, ◌≤◌, ◌<◌}
 use mathlib.Core.Path.{◌≡◌, refl, sym, ap, ap₂, ◌∙◌}
 use mathlib.Core.List.{List, [], ◌∷◌, ◌++◌}
 use mathlib.Core.Bool.{Bool, true, false, ◌&&◌}
@@ -24,7 +24,7 @@ use Rattle.outline_index.specs.declared.Gained.{Gained}
 use Rattle.outline_index.specs.declared.Gained.TheVariants.{Parts, NoPlace}
 use Rattle.outline_index.specs.Pools.{in_turn, pad_with, every}
 use Rattle.outline_index.specs.Parts.{no_height, stripes_part, list_part, bytes_part, span_part, stripes_in, entries_in, row_of, few_stripes, enough_work}
-use Rattle.outline_index.specs.Inner.Step.{ZeroFrom, behind, row_numbers, stripes_fit, tree_fits, gain_in, Stepped}
+use Rattle.outline_index.specs.Inner.Step.{ZeroFrom, row_numbers, stripes_fit, tree_fits, gain_in, Stepped}
 use Rattle.outline_index.proofs.Pools.{turn_more, turn_like, pad_is, pad_none, pad_length, pad_over, used_length, used_zero, used_more, every_more}
 use Rattle.outline_index.proofs.Steps.{stripes_length, step_done, step_short}
 use Rattle.outline_build.specs.Indexes.{stripes_to, list_to, bytes_to, spans_to, row_at, rows_to, calls, roomy}

@@ -29,7 +29,7 @@ use Rattle.outline_build.specs.Statistics.{stats_at, ring_stats}
 use Rattle.outline_agree.specs.Own.{OwnIndex, OwnIndexes}
 use Rattle.outline_agree.proofs.Rings.{asked_as_scan, ring_nums}
 use Rattle.outline_index.specs.declared.BuildOptions.{BuildOptions}
-use Rattle.outline_index.specs.Pools.{pad_with, every}
+use Rattle.outline_index.specs.Pools.{pad_with}
 use Rattle.outline_index.specs.Parts.{no_height, has_stripes as getsStripes, has_tree as getsTree, few_stripes, enough_work}
 use Rattle.outline_index.proofs.Pools.{every_one}
 use Rattle.outline_build.specs.declared.Built.TheVariants.{Indexed, Unbuilt}

@@ -1,6 +1,6 @@
 -- Laws of the checks on a ring. Assumes nothing.
-use Prim.Native.Nat.{ℕ, ◌*◌, ◌≤◌, ◌<◌}
-use mathlib.Core.Path.{◌≡◌, refl, sym, ap, ◌∙◌}
+use Prim.Native.Nat.{ℕ, ◌*◌, ◌≤◌}
+use mathlib.Core.Path.{◌≡◌, refl}
 use mathlib.Core.List.{List}
 use mathlib.Core.Bool.{Bool, true, false, not, ◌&&◌, false≢true}
 use lib.ListN.{length}
@@ -10,7 +10,7 @@ use borrow.Author.Tests.{ltb-false, eqb-true, not-true}
 use Rattle.answers.specs.declared.Refusal.{Refusal}
 use Rattle.answers.specs.declared.Refusal.TheVariants.{TooFew, TooMany, SizesDiffer, NotClosed}
 use Rattle.rings.specs.declared.Checked.{Checked}
-use Rattle.rings.specs.declared.Checked.TheVariants.{Sound, Faulty}
+use Rattle.rings.specs.declared.Checked.TheVariants.{Sound}
 use Rattle.rings.specs.Checks.{closed, holding, ring_checked}
 
 -- the two sides of a test that holds

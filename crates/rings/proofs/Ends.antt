@@ -5,8 +5,6 @@ use mathlib.Core.List.{List}
 use native.Mathlib.Omega.{arith}
 use lib.ListN.{get_or}
 use lib.IntN.{ℤ, pos}
-use Rattle.boxes.specs.declared.I32Point.{I32Point}
-use Rattle.boxes.specs.declared.Segment.{Segment}
 use Rattle.rings.specs.Ring.{point_at, segment_at}
 
 pub segment_ends : (ring : List ℤ) (i : ℕ) → segment_at ring i ≡ record { a = point_at ring i; b = point_at ring (i + 1) }

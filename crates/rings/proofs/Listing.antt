@@ -1,6 +1,6 @@
 -- A list that fits the room, and one that does not; and the loop that lists the numbers below n at which a test holds. Assumes nothing.
 use Prim.Native.Nat.{ℕ, ◌+◌, ◌≤◌, ◌<◌}
-use mathlib.Core.Path.{◌≡◌, refl, sym, ap, ap₂, ◌∙◌}
+use mathlib.Core.Path.{◌≡◌, sym, ap, ap₂, ◌∙◌}
 use mathlib.Core.Bool.{Bool, true, false}
 use native.Mathlib.Omega.{arith}
 use mathlib.Core.List.{List}
@@ -11,9 +11,8 @@ use Rattle.room.specs.Numbers.{up_to}
 use Rattle.room.specs.Room.{write, pad}
 use Rattle.room.proofs.UpTo.{up_to_done, up_to_yes, up_to_no}
 use Rattle.room.proofs.Fill.{room_fits, room_short, write_pad}
-use Rattle.rings.specs.declared.Listed.{Listed}
 use Rattle.rings.specs.declared.Listed.TheVariants.{Count, Unlisted}
-use Rattle.rings.specs.Listing.{Outcome, listed_in}
+use Rattle.rings.specs.Listing.{listed_in}
 
 module _ (xs out : List ℕ) where
   pub listed_fits : length xs ≤ length out → listed_in xs out ≡ (Count (length xs), pad (length out) xs)

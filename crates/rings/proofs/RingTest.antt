@@ -1,6 +1,6 @@
 -- The ring test over the numbers from i up to n at which a test t holds, one number at a time. Assumes nothing.
 use Prim.Native.Nat.{ℕ, ◌+◌, ◌≤◌, ◌<◌}
-use mathlib.Core.Path.{◌≡◌, refl}
+use mathlib.Core.Path.{◌≡◌}
 use mathlib.Core.Bool.{Bool, true, false, not}
 use Rattle.room.specs.Numbers.{up_to}
 use Rattle.rings.specs.RingTest.{test_from}

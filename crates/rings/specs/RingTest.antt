@@ -1,5 +1,5 @@
 -- 01, "Asking", the ring test: for each listed segment, "on" ends with the edge rule; "inside" flips the answer. Start at no.
-use Rattle.std.specs.Prelude.{ℕ, List, [], ◌∷◌, Bool, true, false, not, cond}
+use Rattle.std.specs.Prelude.{ℕ, List, [], ◌∷◌, Bool, false, not, cond}
 
 -- what the numbers of a list make of the answer so far; which segments p is on, and which it is inside of, are given by number
 unfoldable pub test_from : (ℕ → Bool) → (ℕ → Bool) → Bool → Bool → List ℕ → Bool

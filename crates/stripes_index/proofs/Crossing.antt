@@ -1,7 +1,6 @@
 -- Which stripes a segment crosses, as an order of numbers. Assumes nothing.
-use Prim.Native.Nat.{ℕ, ◌≤◌, ◌<◌}
+use Prim.Native.Nat.{ℕ, ◌≤◌}
 use mathlib.Core.Path.{◌≡◌, refl, sym}
-use mathlib.Core.List.{List}
 use mathlib.Core.Bool.{Bool, true, false, ◌&&◌, true≢false}
 use lib.Dec.{leb}
 use lib.Ieee.{Float}

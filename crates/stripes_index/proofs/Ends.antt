@@ -1,12 +1,12 @@
 -- A ring's least y and height hold every segment between them, whatever kind its numbers are: they need only be coordinates. Assumes nothing.
 use mathlib.Core.Path.{◌≡◌, sym, subst}
-use mathlib.Core.Logic.{◌⊎◌, inl, inr}
+use mathlib.Core.Logic.{inl, inr}
 use Prim.Native.Nat.{ℕ, zero, suc, ◌+◌, ◌*◌, ◌≤◌, ◌<◌}
 use native.Mathlib.Omega.{arith}
 use native.Mathlib.Nat.{zero-lt-suc, zero-mul}
 use mathlib.Core.Bool.{true, false, true≢false}
 use lib.Dec.{T, lt→ltb}
-use lib.Ieee.{Float, nan, inf, fin, binary64, is_nan, le, eq, of_bits}
+use lib.Ieee.{Float, nan, inf, fin, is_nan, le, eq, of_bits}
 use lib.Ieee.Scale.{finite}
 use Rattle.room.proofs.Cases.{lt_or}
 use Rattle.floats.proofs.Order.{le_trans, le_refl}

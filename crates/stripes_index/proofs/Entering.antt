@@ -1,11 +1,11 @@
 -- What a store of the counting and of the entering loop makes of the lent room. Assumes nothing.
 use Prim.Native.Nat.{ℕ, zero, suc, ◌+◌, ◌*◌, ◌-◌, ◌≤◌, ◌<◌}
-use mathlib.Core.Path.{◌≡◌, refl, sym, ap, ap₂, ◌∙◌}
+use mathlib.Core.Path.{◌≡◌, refl, sym, ap, ◌∙◌}
 use mathlib.Core.List.{List, [], ◌∷◌, ◌++◌, append-nil}
 use mathlib.Core.Bool.{Bool, true, false, ◌&&◌}
 use native.Mathlib.Omega.{arith}
 use lib.ListN.{length, get_or, set, replicate, length-append, length-replicate, replicate-append-replicate}
-use lib.Dec.{leb, ltb}
+use lib.Dec.{ltb}
 use Rattle.room.specs.Numbers.{cons_if, up_to}
 use Rattle.room.specs.Room.{pad}
 use Rattle.room.proofs.Fill.{pad_length, pad_none}

@@ -4,8 +4,8 @@ use mathlib.Core.Path.{◌≡◌, refl, sym, ap, ap₂, ◌∙◌}
 use mathlib.Core.List.{List, [], ◌∷◌, ◌++◌, append_assoc}
 use mathlib.Core.Logic.{⊎_elim}
 use native.Mathlib.Omega.{arith}
-use lib.ListN.{length, get_or, take, drop, set, replicate, length-append, length-set, length-replicate, get_or-append}
-use lib.Seq.{set-append_left, get_or-append-add, drop-append-add, take-append_seam, take-append-le, drop-append-le}
+use lib.ListN.{length, get_or, take, drop, set, replicate, length-append, length-set, get_or-append}
+use lib.Seq.{set-append_left, get_or-append-add, drop-append-add, take-append_seam}
 use Rattle.room.specs.Room.{pad}
 use Rattle.room.proofs.Cases.{lt_or}
 use Rattle.stripes_index.specs.Joined.{joined}

@@ -1,5 +1,5 @@
 -- 01, "Stripes": what an index of a ring holds. A ring is its numbers, x then y for each point.
-use Rattle.std.specs.Prelude.{Bool, ◌&&◌, List, [], ◌∷◌, ℕ, zero, suc, ◌+◌, ◌-◌, ◌*◌, max, length, leb, Float}
+use Rattle.std.specs.Prelude.{Bool, ◌&&◌, List, [], ◌∷◌, ℕ, zero, suc, max, length, leb, Float}
 use Rattle.std.specs.Float.{binary64}
 use Rattle.std.specs.Float.Ieee.{sub}
 use Rattle.floats.specs.Values.{lesser_of, greater_of}

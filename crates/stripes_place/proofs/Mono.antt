@@ -1,7 +1,7 @@
 -- The stripe of y is monotone in y, each operation rounded as IEEE 754 has it: for any y ≤ y', a finite least, a height that is 0, or finite
 -- and above 0, and up to 2 ^ 53 stripes. Assumes nothing.
-use Rattle.std.proofs.Common.{◌≡◌, ℕ, ◌-◌, ◌^◌, ◌<◌, ◌≤◌, min, Bool, true, false, cond, T, ◌⊎◌, pos, sym, refl, ap, ◌∙◌, inl, inr, zero-le, arith}
-use lib.Ieee.{Float, binary64, eq, le, sub, mul, div, of_int, of_bits, round, to_unsigned}
+use Rattle.std.proofs.Common.{◌≡◌, ℕ, ◌-◌, ◌^◌, ◌<◌, ◌≤◌, min, Bool, true, false, cond, T, ◌⊎◌, pos, refl, inl, inr, zero-le, arith}
+use lib.Ieee.{Float, binary64, eq, le, sub, div, of_int, of_bits, round, to_unsigned}
 use lib.Ieee.Back.{round_whole}
 use lib.Ieee.Scale.{finite}
 use lib.Ieee.Positive.{positive, positive_of_value}

@@ -10,7 +10,7 @@ use Rattle.answers.specs.declared.Refusal.TheVariants.{Loose}
 use Rattle.boxes.specs.declared.Rect.{Rect}
 use Rattle.varint.specs.declared.ReadUvarint.TheVariants.{Unread}
 use Rattle.varint.specs.Uvarint.{read_uvarint}
-use Rattle.tree.specs.Search.{Found, fails, own_from, own, Visit, child}
+use Rattle.tree.specs.Search.{fails, own_from, own, Visit, child}
 
 module _ (bytes : List ℕ) (ring : ℕ → Float) (segments : ℕ) (y : Float) (end p : ℕ) (loose : read_uvarint 64 (take end bytes) p ≡ Unread (Loose p)) where
   pub loose_count : own bytes ring segments y end p ≡ ([], fails (Loose p))

@@ -1,11 +1,11 @@
 -- Bytes that read as the same nodes, own segments and quadrants are the same bytes (02, CR 6): each is what packing writes for them. Assumes nothing.
-use Prim.Native.Nat.{ℕ, ◌+◌, ◌-◌, ◌≤◌, ◌<◌}
+use Prim.Native.Nat.{ℕ, ◌+◌, ◌-◌, ◌≤◌}
 use mathlib.Core.Path.{◌≡◌, refl, sym, ap, ap₂, ◌∙◌}
 use mathlib.Core.List.{List, [], ◌∷◌, ◌++◌, append_assoc, append-nil}
 use native.Mathlib.Omega.{arith}
 use native.Mathlib.Numerals.{add-one}
-use lib.ListN.{length, get_or, take, drop, length-append, drop_of_length-le, length-take}
-use lib.Seq.{drop-cons, get_or-take}
+use lib.ListN.{length, take, drop, length-append, drop_of_length-le, length-take}
+use lib.Seq.{drop-cons}
 use Rattle.room.proofs.Holds.{holds_drop, take_holds}
 use Rattle.varint.specs.Bytes.{Bytes}
 use Rattle.varint.specs.Leb128.{encode}

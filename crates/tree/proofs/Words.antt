@@ -1,6 +1,6 @@
 -- The tree of a ring is by 01's own words on quadrants: in every box that a node can have, each segment of the ring goes where they send it. The
 -- definition of the tree has the source's order of tests, which is theirs where no NaN is met; the ring's numbers are coordinates. Assumes nothing.
-use Prim.Native.Nat.{ℕ, zero, suc, ◌+◌, ◌-◌, ◌*◌, ◌^◌, ◌≤◌, ◌<◌}
+use Prim.Native.Nat.{ℕ, zero, suc, ◌+◌, ◌-◌, ◌*◌, ◌≤◌, ◌<◌}
 use mathlib.Core.Path.{◌≡◌}
 use mathlib.Core.List.{List, [], ◌∷◌}
 use native.Mathlib.Omega.{arith}

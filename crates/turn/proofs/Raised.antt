@@ -1,8 +1,8 @@
 -- A coordinate raised by 2^31 is not below 0, and below 2^32. Assumes nothing.
-use Prim.Native.Nat.{ℕ, suc, ◌-◌, ◌^◌, ◌<◌}
+use Prim.Native.Nat.{suc, ◌-◌, ◌^◌, ◌<◌}
 use mathlib.Core.Path.{◌≡◌, refl, sym, ap, ◌∙◌}
 use native.Mathlib.Omega.{arith}
-use lib.IntN.{ℤ, pos, negsuc, nat_abs, ◌+ℤ◌}
+use lib.IntN.{ℤ, pos, negsuc, nat_abs}
 use mir.Syntax.{w32}
 use mir.Val.{SFits}
 use borrow.Author.Tests.{le-ltb}

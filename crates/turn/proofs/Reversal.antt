@@ -5,7 +5,7 @@
 -- stays none (`reversed_sign`). An accepted ring stays accepted (`reversed_sound`); any ring of two numbers a point is refused
 -- as before or not at all (`reversed_checked`), so that the call's whole answer is known (`reversed_turned`). Twice reversed is
 -- the ring again (`reversed_twice`).
-use Prim.Native.Nat.{ℕ, zero, suc, ◌+◌, ◌*◌, ◌-◌, ◌<◌}
+use Prim.Native.Nat.{ℕ, zero, suc, ◌*◌, ◌-◌, ◌<◌}
 use mathlib.Core.Path.{◌≡◌, refl, sym, ap, ap₂, ◌∙◌}
 use mathlib.Core.Bool.{◌&&◌}
 use mathlib.Core.List.{List}

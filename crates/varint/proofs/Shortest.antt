@@ -1,17 +1,17 @@
 -- The shortest form of a number, a byte at a time: no field that stands for it is shorter, and one that is as short is what the writer writes.
-use Prim.Native.Nat.{ℕ, zero, suc, ◌+◌, ◌*◌, ◌/◌, ◌%◌, ◌≤◌, ◌<◌}
-use mathlib.Core.Path.{◌≡◌, refl, sym, ap, ap₂, ◌∙◌}
+use Prim.Native.Nat.{ℕ, suc, ◌+◌, ◌%◌, ◌≤◌, ◌<◌}
+use mathlib.Core.Path.{◌≡◌, sym, ap, ap₂, ◌∙◌}
 use mathlib.Core.List.{List, [], ◌∷◌}
 use mathlib.Core.Bool.{Bool, true, false}
 use mathlib.Core.Logic.{◌⊎◌, ⊎_elim, inl, inr}
 use native.Mathlib.Omega.{arith}
-use lib.ListN.{length, get_or, take}
+use lib.ListN.{length, take}
 use lib.Dec.{eqb}
 use borrow.Author.Tests.{eq-eqb, ne_eqb}
 use Rattle.room.proofs.Cases.{lt_or, eq_or}
 use Rattle.varint.specs.Bytes.{Bytes}
 use Rattle.varint.specs.Leb128.{decode, size, encode}
-use Rattle.varint.proofs.Leb128.{decode_last, decode_more, size_last, size_more, size_some, encode_last, encode_more, encode_some}
+use Rattle.varint.proofs.Leb128.{decode_last, decode_more, size_last, size_more, size_some, encode_last, encode_more}
 
 -- the field is as long as its number needs
 abbrev pub shortest : List ℕ → Bool

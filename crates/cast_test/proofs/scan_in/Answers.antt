@@ -1,7 +1,6 @@
 -- `cast_test::scan_in` meets its contract. The invariant: what is seen and the segments to come make the answer, and nothing was "on". Assumes nothing.
 use mathlib.Core.Path.{refl, ap, ◌∙◌}
-use mathlib.Core.Bool.{false}
-use Prim.Native.Nat.{◌+◌, ◌-◌}
+use Prim.Native.Nat.{◌+◌}
 use borrow.Author.Rules.{rules}
 use Rattle.answers.specs.Answers.{said}
 use Rattle.rings.specs.Ring.{wide}

@@ -1,5 +1,4 @@
 -- The loop's invariant: the ring test from segment i on, with the answer so far, is the whole ring test.
-use Prim.Native.Nat.{◌-◌}
 use mathlib.Core.Path.{◌≡◌, refl, sym, ◌∙◌}
 use mathlib.Core.Bool.{true, false}
 use native.Mathlib.Omega.{arith}

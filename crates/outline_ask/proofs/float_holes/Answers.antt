@@ -1,7 +1,6 @@
 -- `outline_ask::float_holes` meets its contract. The invariant: ring k starts at `at`, and the holes before it have settled nothing. Assumes nothing.
 use mathlib.Core.Path.{refl, sym, ◌∙◌}
 use mathlib.Core.Bool.{false}
-use Prim.Native.Nat.{◌-◌}
 use native.Mathlib.Omega.{arith}
 use lib.ListN.{length}
 use Rattle.outline_ring.specs.RingIndex.{lent}

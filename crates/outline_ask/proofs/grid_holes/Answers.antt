@@ -1,7 +1,6 @@
 -- `outline_ask::grid_holes` meets its contract. The invariant: ring k starts at `at`, and the holes before it have settled nothing. Assumes nothing.
 use mathlib.Core.Path.{refl, sym, ap, ◌∙◌}
 use mathlib.Core.Bool.{false}
-use Prim.Native.Nat.{◌-◌}
 use native.Mathlib.Omega.{arith}
 use lib.ListN.{length}
 use mir.Syntax.{w64}

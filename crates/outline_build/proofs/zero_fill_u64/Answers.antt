@@ -1,6 +1,5 @@
 -- `outline_build::zero_fill_u64` meets its contract, by the laws of room's `Fill`. Assumes nothing.
 use mathlib.Core.Path.{◌∙◌}
-use Prim.Native.Nat.{◌-◌}
 use Rattle.room.proofs.Fill.{filling, filling_more, filling_done}
 use Rattle.outline_index.proofs.Pools.{fill_all}
 use Rattle.outline_build.proofs.zero_fill_u64.Goals as goal

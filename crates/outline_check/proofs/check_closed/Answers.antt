@@ -1,7 +1,6 @@
 use native.Mathlib.Omega.{arith}
-use Prim.Native.Nat.{ℕ, ◌+◌, ◌-◌, ◌*◌}
+use Prim.Native.Nat.{ℕ, ◌+◌, ◌*◌}
 use mathlib.Core.Path.{refl, sym, ◌∙◌, ap}
-use borrow.Author.Tests.{not-true, not-false}
 use mathlib.Core.List.{List}
 use lib.IntN.{ℤ}
 use Rattle.rings.specs.Checks.{closed}

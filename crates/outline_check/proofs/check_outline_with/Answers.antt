@@ -1,7 +1,6 @@
 use mathlib.Core.Path.{sym, ◌∙◌, ap}
 use mathlib.Core.Bool.{Bool, ◌&&◌}
 use lib.Ieee.{binary64, of_bits, lt}
-use borrow.Author.Tests.{not-true, not-false}
 use Rattle.outline_check.specs.Rules.{outline_with, scale_checked}
 use Rattle.outline_check.proofs.check_outline_with.Goals as goal
 

@@ -1,5 +1,4 @@
 -- `outline_index::index_ring` meets its contract. Assumes nothing.
-use Prim.Native.Nat.{◌-◌}
 use Rattle.rings.specs.Ring.{wide}
 use Rattle.outline_index.proofs.Steps.{stepped}
 use Rattle.outline_index.proofs.index_ring.Goals as goal

@@ -1,6 +1,5 @@
 -- `outline_index::ring_tree` meets its contract. Assumes nothing.
 use mathlib.Core.Path.{sym, ◌∙◌}
-use Prim.Native.Nat.{◌-◌}
 use native.Mathlib.Omega.{arith}
 use Rattle.rings.proofs.Checks.{sound_ring}
 use Rattle.rings.specs.Ring.{wide}

@@ -1,6 +1,5 @@
 -- `outline_index::zero_fill_f64` meets its contract, by the laws of room's `Fill`. Assumes nothing.
 use mathlib.Core.Path.{◌∙◌}
-use Prim.Native.Nat.{◌-◌}
 use Rattle.room.proofs.Fill.{filling, filling_more, filling_done}
 use Rattle.outline_index.specs.Parts.{no_height}
 use Rattle.outline_index.proofs.Pools.{fill_all}

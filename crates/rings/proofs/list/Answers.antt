@@ -1,12 +1,11 @@
 -- The loop's invariant is `Filling` of Listing.antt.
-use Prim.Native.Nat.{ℕ, ◌-◌}
+use Prim.Native.Nat.{ℕ}
 use mathlib.Core.Path.{refl, sym, ap, ◌∙◌}
 use mathlib.Core.List.{List}
 use native.Mathlib.Omega.{arith}
 use Rattle.answers.specs.declared.Refusal.TheVariants.{NoRoom}
 use Rattle.room.proofs.Fill.{pad_none}
 use Rattle.rings.specs.declared.Listed.TheVariants.{Unlisted}
-use Rattle.rings.specs.Ring.{holds_height}
 use Rattle.rings.proofs.Listing.{filling_yes, filling_no, filling_short, filling_done}
 use Rattle.rings.proofs.list.Goals as goal
 

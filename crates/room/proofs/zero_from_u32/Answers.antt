@@ -1,6 +1,5 @@
 -- `room::zero_from_u32` meets its contract, by the laws of `Fill`.
 use mathlib.Core.Path.{sym, ◌∙◌}
-use Prim.Native.Nat.{◌-◌}
 use Rattle.room.proofs.Fill.{filling, filling_more, filling_done, pad_filled}
 use Rattle.room.proofs.zero_from_u32.Goals as goal
 

@@ -1,5 +1,4 @@
 -- `root::scale_subnormal` meets its contract. After i turns the digits are n * 4 ^ i. Assumes nothing.
-use Prim.Native.Nat.{◌-◌}
 use native.Mathlib.Omega.{arith}
 use Rattle.root.proofs.Patterns.{widened_start, widened_more, widened_turn, widened_done}
 use Rattle.root.proofs.scale_subnormal.Goals as goal

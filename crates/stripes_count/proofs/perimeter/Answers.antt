@@ -1,5 +1,5 @@
 -- `stripes_count::perimeter` meets its contract. The invariant: what is summed so far is the sum over the first i segments. Assumes nothing.
-use Rattle.std.proofs.Common.{◌≡◌, ◌-◌, refl, add-one, arith}
+use Rattle.std.proofs.Common.{◌≡◌, refl, add-one, arith}
 use Rattle.stripes_count.specs.Count.{sum_to}
 use Rattle.stripes_count.proofs.perimeter.Goals as goal
 

@@ -1,13 +1,13 @@
 -- `stripes_index::count_segment` meets its contract. The invariant: the segment is counted in the stripes below s. Assumes nothing.
 use mathlib.Core.Path.{◌≡◌, refl, sym, ap, ◌∙◌}
 use mathlib.Core.List.{List}
-use Prim.Native.Nat.{ℕ, ◌+◌, ◌*◌, ◌-◌}
+use Prim.Native.Nat.{ℕ, ◌+◌, ◌*◌}
 use lib.ListN.{length, get_or, set, length-set}
 use native.Mathlib.Omega.{arith}
 use Rattle.rings.specs.Ring.{wide}
 use Rattle.room.specs.Room.{pad}
 use Rattle.stripes_place.proofs.Mono.{stripe_below}
-use Rattle.stripes_index.specs.Index.{part_of, low_end, high_end, first_stripe, last_stripe, crosses}
+use Rattle.stripes_index.specs.Index.{part_of, high_end, first_stripe, last_stripe, crosses}
 use Rattle.stripes_index.specs.Inner.States.{none}
 use Rattle.stripes_index.proofs.Turns.{part_length}
 use Rattle.stripes_index.proofs.Entering.{count_is, count_turn, counts_from, counts_done}

@@ -1,6 +1,5 @@
 -- `stripes_index::greatest_y` meets its contract. The invariant: it holds of the first i segments. Assumes nothing.
 use mathlib.Core.Path.{◌≡◌}
-use Prim.Native.Nat.{◌-◌}
 use native.Mathlib.Omega.{arith}
 use native.Mathlib.Numerals.{add-one}
 use Rattle.stripes_index.specs.Index.{greatest_y}

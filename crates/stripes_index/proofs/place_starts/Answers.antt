@@ -2,7 +2,7 @@
 -- greatest count so far. Assumes nothing.
 use mathlib.Core.Path.{◌≡◌, refl, sym, ap, ap₂, ◌∙◌}
 use mathlib.Core.List.{List}
-use Prim.Native.Nat.{ℕ, ◌+◌, ◌*◌, ◌-◌, max}
+use Prim.Native.Nat.{ℕ, ◌+◌, ◌*◌, max}
 use lib.ListN.{length, get_or, set, length-set}
 use native.Mathlib.Omega.{arith}
 use native.Mathlib.Numerals.{add-one}

@@ -3,7 +3,7 @@ use Rattle.tree.proofs.Extremes.{at, greatest_first, greatest_next}
 use Rattle.tree.specs.Tree.{greatest}
 use Rattle.floats.specs.Values.{greater_of}
 use lib.Ieee.{Float}
-use Prim.Native.Nat.{ℕ, ◌-◌}
+use Prim.Native.Nat.{ℕ}
 use mathlib.Core.Path.{ap, ap₂, ◌∙◌}
 use native.Mathlib.Omega.{arith}
 use borrow.Author.Rules.{rules}

@@ -3,7 +3,7 @@ use Rattle.tree.proofs.Extremes.{at, least_first, least_next}
 use Rattle.tree.specs.Tree.{least}
 use Rattle.floats.specs.Values.{lesser_of}
 use lib.Ieee.{Float}
-use Prim.Native.Nat.{ℕ, ◌-◌}
+use Prim.Native.Nat.{ℕ}
 use mathlib.Core.Path.{ap, ap₂, ◌∙◌}
 use native.Mathlib.Omega.{arith}
 use borrow.Author.Rules.{rules}

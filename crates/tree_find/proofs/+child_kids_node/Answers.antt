@@ -1,10 +1,8 @@
 -- `tree_find::child`, `kids` and `node`, which call one another, meet their contracts.
-use Prim.Native.Nat.{◌*◌, ◌+◌, ◌-◌}
-use mathlib.Core.Path.{◌≡◌, refl, sym, ap, ◌∙◌}
+use mathlib.Core.Path.{refl, sym, ◌∙◌}
 use native.Mathlib.Omega.{arith}
 use borrow.Author.Rules.{rules}
-use borrow.Author.Tests.{eq-eqb, ne_eqb}
-use lib.ListN.{length}
+use borrow.Author.Tests.{eq-eqb}
 use Rattle.tree_find.proofs.Ways.{read_within, child_unread, child_none, child_deep, quad_past, quad_skip, quad_visit, kids_done, kids_more, split_missing, split_leaf, split_kids, split_bad, node_step}
 use Rattle.tree_find.proofs.Pour.{told, then_go, then_stop}
 use Rattle.tree_find.proofs.+child_kids_node.Goals as goal
@@ -68,4 +66,3 @@ node-returns-in-Stopped t c = node_step _ _ _ _ _ _ _ _ _ _ _ ∙ then_stop _ _ 
 
 pub node-returns-else-split-eq1 : goal.node-returns-else-split-eq1
 node-returns-else-split-eq1 t c = node_step _ _ _ _ _ _ _ _ _ _ _ ∙ then_go _ _ _ _ _ (told c.own.ensures c.in-Reached.is) ∙ split_bad _ _ _ _ _ _ _ _ _ _ _ _ c.if-end-p.false c.if-split-eq0.false c.if-split-eq1.false
-

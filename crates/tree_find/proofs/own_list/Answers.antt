@@ -1,6 +1,5 @@
 use Rattle.tree_find.proofs.Ways.{own_done, own_unread, own_over, own_more, own_full}
 use Rattle.tree_find.proofs.Pour.{told_taken}
-use Prim.Native.Nat.{◌-◌}
 use mathlib.Core.Path.{refl, sym, ◌∙◌}
 use native.Mathlib.Omega.{arith}
 use borrow.Author.Rules.{rules}

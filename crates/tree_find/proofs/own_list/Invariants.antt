@@ -2,7 +2,7 @@ use Rattle.rings.specs.Ring.{wide}
 use Rattle.tree_find.specs.Inner.Walks.{step_of, pour}
 use Rattle.tree.specs.Search.{own_from}
 use lib.ListN.{length}
-use Prim.Native.Nat.{◌-◌, ◌≤◌}
+use Prim.Native.Nat.{◌≤◌}
 use mathlib.Core.Path.{◌≡◌}
 use Rattle.tree_find.proofs.own_list.Given as goal
 

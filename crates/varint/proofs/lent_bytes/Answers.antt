@@ -4,7 +4,6 @@ use mathlib.Core.List.{List, [], ◌∷◌}
 use native.Mathlib.Omega.{arith}
 use lib.ListN.{length}
 use Rattle.varint.specs.Bytes.{Bytes}
-use Rattle.varint.proofs.lent_bytes.Goals as goal
 
 none : (bs : List ℕ) → length bs ≤ 0 → Bytes bs
 none [] h i = omega arith

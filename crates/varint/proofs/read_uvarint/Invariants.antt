@@ -1,7 +1,7 @@
 -- `varint::read_uvarint` meets its contract. The loop's invariant: the whole reading is the reading from here on, what was
 -- read is below the next byte's weight, the tenth byte's weight is 2 ^ 63, and ten bytes are read or left.
 use mathlib.Core.Path.{◌≡◌}
-use Prim.Native.Nat.{ℕ, ◌<◌, ◌≤◌, ◌+◌, ◌-◌, ◌^◌, min}
+use Prim.Native.Nat.{ℕ, ◌<◌, ◌≤◌, ◌+◌, ◌^◌, min}
 use lib.ListN.{length, take}
 use Rattle.varint.specs.Uvarint.{read_uvarint}
 use Rattle.varint.proofs.Reading.{read_at_lem}

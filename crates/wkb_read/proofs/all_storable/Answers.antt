@@ -1,8 +1,6 @@
 use native.Mathlib.Omega.{arith}
-use Prim.Native.Nat.{◌-◌}
 use mathlib.Core.Path.{sym, ap₂, ◌∙◌}
 use mathlib.Core.Bool.{◌&&◌}
-use borrow.Author.Tests.{not-true, not-false}
 use Rattle.wkb_read.proofs.Put.{storing, storing_on, storing_not, storing_done}
 use Rattle.wkb_read.proofs.all_storable.Goals as goal
 

@@ -1,5 +1,4 @@
 use native.Mathlib.Omega.{arith}
-use Prim.Native.Nat.{◌-◌}
 use Rattle.wkb_shape.specs.Inner.Laid.{count_of, next_of}
 use Rattle.wkb_read.specs.Judged.{not_over}
 use Rattle.wkb_read.proofs.Walk.{going, go_on, go_fault, go_done, count_there, points_there, many_ok, many_not}

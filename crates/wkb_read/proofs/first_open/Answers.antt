@@ -1,7 +1,5 @@
 use native.Mathlib.Omega.{arith}
-use Prim.Native.Nat.{◌-◌}
 use mathlib.Core.Path.{sym, ◌∙◌}
-use borrow.Author.Tests.{not-true, not-false}
 use Rattle.wkb_shape.specs.Inner.Laid.{count_of, next_of}
 use Rattle.wkb_read.proofs.Walk.{going, go_on, go_fault, go_done, count_there, points_there}
 use Rattle.wkb_read.proofs.first_open.Goals as goal

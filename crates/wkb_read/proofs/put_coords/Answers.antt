@@ -1,5 +1,4 @@
 use native.Mathlib.Omega.{arith}
-use Prim.Native.Nat.{◌-◌}
 use Rattle.wkb_shape.specs.Inner.Laid.{count_of, next_of}
 use Rattle.wkb_read.proofs.Walk.{count_there, points_there}
 use Rattle.wkb_read.proofs.Put.{laying, ring_ok, ring_room, laying_on, laying_done}

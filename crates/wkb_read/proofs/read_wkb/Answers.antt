@@ -1,7 +1,6 @@
 use mathlib.Core.Path.{sym, ap, ◌∙◌}
 use mathlib.Core.Bool.{Bool, ◌&&◌}
 use lib.Ieee.{binary64, of_bits, lt}
-use borrow.Author.Tests.{not-true, not-false}
 use Rattle.wkb_shape.proofs.Begins.{shape_laid}
 use Rattle.wkb_read.proofs.Rules.{read_bad, read_unshaped, read_faulty, read_fine, read_kept}
 use Rattle.wkb_read.proofs.read_wkb.Goals as goal

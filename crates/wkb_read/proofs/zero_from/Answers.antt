@@ -1,5 +1,4 @@
 use native.Mathlib.Omega.{arith}
-use Prim.Native.Nat.{◌-◌}
 use lib.ListN.{length-set}
 use lib.IntN.{pos}
 use mathlib.Core.Path.{sym, ◌∙◌}

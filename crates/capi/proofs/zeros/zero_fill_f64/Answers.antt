@@ -1,5 +1,4 @@
 use mathlib.Core.Path.{◌∙◌}
-use Prim.Native.Nat.{◌-◌}
 use lib.Ieee.{binary64, of_bits}
 use Rattle.room.proofs.Fill.{filling, filling_more, filling_done}
 use Rattle.capi.proofs.Filled.{filled_all}

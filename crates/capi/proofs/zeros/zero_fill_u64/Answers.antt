@@ -1,5 +1,4 @@
 use mathlib.Core.Path.{◌∙◌}
-use Prim.Native.Nat.{◌-◌}
 use Rattle.room.proofs.Fill.{filling, filling_more, filling_done}
 use Rattle.capi.proofs.Filled.{filled_all}
 use Rattle.capi.proofs.zeros.zero_fill_u64.Goals as goal
