@@ -1,4 +1,4 @@
--- "Quadrants: 0 north_west, 1 north-east, 2 south-west, 3 south-east; the middle is (min+max)/2 rounded. West means max.x < middle, east means
+-- "Quadrants: 0 north-west, 1 north-east, 2 south-west, 3 south-east; the middle is (min+max)/2 rounded. West means max.x < middle, east means
 -- min.x >= middle; south and north likewise. A segment that is neither stays."
 use Rattle.std.specs.Prelude.{Bool, true, false, not, ℕ, zero, suc, Float}
 use Rattle.std.specs.Float.{binary64}

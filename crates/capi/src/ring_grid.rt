@@ -5,7 +5,7 @@ ghost use Rattle.capi.specs.Told.{is_set, answer_told};
 use crate::told::{is_set, tell_answer};
 use grid::grid_ring;
 
-// The whole_number ring test.
+// The whole-number ring test.
 #[unsafe(no_mangle)]
 pub extern "C" fn brothstitch_ring_grid(
     coords: &[i32],

@@ -1,4 +1,4 @@
--- The whole_number test over ℕ. Any three whole numbers are numbers of ℕ less one and the same, and the test asks for differences alone:
+-- The whole-number test over ℕ. Any three whole numbers are numbers of ℕ less one and the same, and the test asks for differences alone:
 -- so all of it may be read in ℕ, where `omega` works. Assumes nothing.
 use Prim.Native.Nat.{ℕ, ◌+◌, ◌*◌, ◌-◌, ◌≤◌}
 use mathlib.Core.Path.{◌≡◌}

@@ -1,4 +1,4 @@
--- 01, "Ring test", by the whole_number test, on every segment of a ring: "Integer mode: .. without index".
+-- 01, "Ring test", by the whole-number test, on every segment of a ring: "Integer mode: .. without index".
 use Rattle.std.specs.Prelude.{ℕ, Bool, List, ℤ}
 use Rattle.answers.specs.declared.Answer.{Answer}
 use Rattle.answers.specs.Answers.{said}

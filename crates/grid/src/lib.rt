@@ -1,4 +1,4 @@
-// The whole_number test of a segment and of a ring, for any i32 ends and any place.
+// The whole-number test of a segment and of a ring, for any i32 ends and any place.
 #![tactic(auto)]
 
 ghost use Rattle.std.specs.Prelude.{◌≡◌, true, cond, ◌+◌, ◌*◌, ◌≤◌, length};

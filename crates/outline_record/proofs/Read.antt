@@ -84,7 +84,7 @@ module _ (sizes : List ℕ) (coords : List ℤ) (i32s : I32s coords) (s : Counte
   pub rect_of_ring : rect_at (boxes_of sizes coords) k ≡ ring_box (wide (ring_of sizes coords k)) (size_at sizes k)
   rect_of_ring = sym (ap (λ (zs : List ℤ). rect_at zs k) (append-nil (boxes_of sizes coords))) ∙ rect_in []
 
--- the whole_number test of a box asks the least and the greatest
+-- the whole-number test of a box asks the least and the greatest
 pub grid_box_in : (sizes : List ℕ) (coords rest : List ℤ) (k : ℕ) (x y : ℤ) → k < rings sizes
     → let ring = ring_of sizes coords k in let last = size_at sizes k - 1 in
     grid_box_holds (boxes_of sizes coords ++ rest) k x y

@@ -1,4 +1,4 @@
-// The whole_number test, and the sign of the cross.
+// The whole-number test, and the sign of the cross.
 ghost use Rattle.std.specs.Prelude.{◌≡◌};
 ghost use Rattle.cross.specs.Cross.{cross, sign_of};
 ghost use Rattle.grid.specs.Grid.{grid_result};

@@ -80,7 +80,7 @@ pub extern "C" fn probe_intersects_rect(
     rect_of(x0, y0, x1, y1).intersects_rect(rect_of(u0, v0, u1, v1))
 }
 
-// The corners by number: 0 north_west, 1 south-west, 2 south-east, 3 and above north-east.
+// The corners by number: 0 north-west, 1 south-west, 2 south-east, 3 and above north-east.
 fn corner(b: Rect, which: u32) -> Point
     ensures { result ≡ corner_of b which }
 {

@@ -1,5 +1,6 @@
 -- Step 5's loop ends, after at most one move, where the ends are whole numbers of size below 2 ^ 52; where it rests is one place only. So the eight
 -- steps have an answer, and one only. Assumes nothing.
+use Rattle.std.specs.Prelude.{if◌then◌else◌}
 use mathlib.Core.Path.{◌≡◌, refl, sym, ap, ◌∙◌, subst}
 use mathlib.Core.Logic.{inl, inr}
 use Prim.Native.Nat.{ℕ, suc, ◌^◌, ◌≤◌, ◌<◌}
@@ -19,7 +20,7 @@ use Rattle.floats.proofs.Least.{rank, eq_rank, next_rank, next_fits}
 use Rattle.floats.proofs.NextUp.{next_up_meets, next_up_only}
 use Rattle.floats.proofs.Ints.{minus, whole_value}
 use Rattle.rays.specs.declared.RaycastResult.{RaycastResult}
-use Rattle.rays.specs.Raycast.{if◌then◌else◌, at, at_end, lift, Rests, rest, move, first_steps, last_steps, Raycast, raycast_of}
+use Rattle.rays.specs.Raycast.{at, at_end, lift, Rests, rest, move, first_steps, last_steps, Raycast, raycast_of}
 use Rattle.rays.proofs.Halves.{not_next, in_reach}
 
 -- ---- where the loop rests

@@ -1,7 +1,7 @@
--- `raycast`: 01's eight steps, each beside its words. "`raycast` of whole_number ends a, b and any float p. Each operation rounds once by IEEE 754;
+-- `raycast`: 01's eight steps, each beside its words. "`raycast` of whole-number ends a, b and any float p. Each operation rounds once by IEEE 754;
 -- comparisons with NaN are false." Every operation and comparison is lib.Ieee's. What is to be believed is `Raycast`, which leaves room for one answer
 -- only (`raycast_unique` of proofs/Rest.antt); the end of the file computes that answer.
-use Rattle.std.specs.Prelude.{◌≡◌, Bool, true, false, ◌&&◌, ◌||◌, ℕ, zero, suc, ℤ, Float}
+use Rattle.std.specs.Prelude.{◌≡◌, if◌then◌else◌, Bool, true, false, ◌&&◌, ◌||◌, ℕ, zero, suc, ℤ, Float}
 use Rattle.std.specs.Float.{binary64}
 use Rattle.std.specs.Float.Ieee.{le, lt, eq, ne, sub, div}
 use Rattle.floats.specs.Next.{NextUp, next_up_of}
@@ -10,11 +10,6 @@ use Rattle.boxes.specs.declared.Segment.{Segment}
 use Rattle.boxes.specs.Segments.{point_of}
 use Rattle.rays.specs.declared.RaycastResult.{RaycastResult}
 use Rattle.rays.specs.declared.RaycastResult.TheVariants.{On, Inside, Neither}
-
-infixr 1 if◌then◌else◌
-abbrev pub if◌then◌else◌ : {A : Type 0} → Bool → A → A → A
-if true then r else s = r
-if false then r else s = s
 
 abbrev pub at : Float → Float → Point
 at x y = record { x = x; y = y }
@@ -82,7 +77,7 @@ pub record Raycast (s : Segment) (p : Point) (r : RaycastResult) : Type 0 where
   pub says : r ≡ first_steps (point_of s.a) (point_of s.b) p (last_steps (point_of s.a) (point_of s.b) (at p.x height))
 
 -- ---- the computing form, for callers and worked cases: `answers` of proofs/Rest.antt shows that `raycast_of s p` is the answer of `Raycast s p`
--- Between whole_number ends step 5 rests after at most one move (`rests` there), so one test and one move stand for the loop.
+-- Between whole-number ends step 5 rests after at most one move (`rests` there), so one test and one move stand for the loop.
 abbrev pub lift : Float → Float → Float → Float
 lift a b y = if at_end a b y then next_up_of y else y
 

@@ -77,7 +77,7 @@ fn crossing(ax: f64, ay: f64, bx: f64, by: f64, px: f64, py: f64) -> RaycastResu
     eighth(bx, by, ax, ay, px, py)
 }
 
-// Steps 1 to 8 with one move at most in step 5, which is all that whole_number ends call for: between
+// Steps 1 to 8 with one move at most in step 5, which is all that whole-number ends call for: between
 // neighbouring floats the steps move twice.
 fn moved_once(ax: f64, ay: f64, bx: f64, by: f64, px: f64, py: f64) -> RaycastResult
     ensures { result ≡ cast_of (at ax ay) (at bx by) (at px py) }

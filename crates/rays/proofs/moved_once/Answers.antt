@@ -1,9 +1,10 @@
 -- `rays::moved_once` meets its contract: each way out follows from the tests that led there. Assumes nothing.
+use Rattle.std.specs.Prelude.{if◌then◌else◌}
 use mathlib.Core.Path.{◌≡◌}
 use lib.Ieee.{eq}
 use Rattle.rays.specs.declared.RaycastResult.{RaycastResult}
 use Rattle.rays.specs.declared.RaycastResult.TheVariants.{On}
-use Rattle.rays.specs.Raycast.{if◌then◌else◌, at, quotient, first_steps}
+use Rattle.rays.specs.Raycast.{at, quotient, first_steps}
 use Rattle.rays.proofs.moved_once.Goals as goal
 use Rattle.rays.proofs.moved_once.Goals.{Else-along-2}
 
