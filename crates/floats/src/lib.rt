@@ -25,7 +25,7 @@ fn next_bits(n: u64) -> u64
     n - 1
 }
 
-// IEEE 754's next_up_of: the least float above x. NaN and +infinity stay, both zeros go to the smallest
+// IEEE 754's nextUp: the least float above x. NaN and +infinity stay, both zeros go to the smallest
 // positive value, and -infinity goes to the least finite one.
 pub fn next_up(x: f64) -> f64
     ensures meets { NextUp binary64 x result }

@@ -1,5 +1,5 @@
 -- `raycast`: 01's eight steps, each beside its words. "`raycast` of whole-number ends a, b and any float p. Each operation rounds once by IEEE 754;
--- comparisons with NaN are false." Every operation and comparison is lib.Ieee's. What is to be believed is `Raycast`, which leaves room for one answer
+-- comparisons with NaN are false." Every operation and comparison is the library's (Rattle.std.specs.Float.Ieee). What is to be believed is `Raycast`, which leaves room for one answer
 -- only (`raycast_unique` of proofs/Rest.antt); the end of the file computes that answer.
 use Rattle.std.specs.Prelude.{◌≡◌, if◌then◌else◌, Bool, true, false, ◌&&◌, ◌||◌, ℕ, zero, suc, ℤ, Float}
 use Rattle.std.specs.Float.{binary64}
