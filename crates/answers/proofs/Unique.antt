@@ -7,8 +7,6 @@ use Rattle.answers.specs.contracts.Refusal.place
 use Rattle.answers.proofs.Refusal.place.Reads as place_reads
 use Rattle.answers.specs.contracts.Refusal.zeroes_rooms
 use Rattle.answers.proofs.Refusal.zeroes_rooms.Reads as zeroes_rooms_reads
-use Rattle.answers.specs.contracts.Answer.of
-use Rattle.answers.proofs.Answer.of.Reads as of_reads
 
 pub one_number : OneOutcome number.ended number_reads.Post
 one_number _ _ _ _ _ _ p q = p ∙ sym q
@@ -18,6 +16,3 @@ one_place _ _ _ _ _ _ p q = p ∙ sym q
 
 pub one_zeroes_rooms : OneOutcome zeroes_rooms.ended zeroes_rooms_reads.Post
 one_zeroes_rooms _ _ _ _ _ _ p q = p ∙ sym q
-
-pub one_of : OneOutcome of.ended of_reads.Post
-one_of _ _ _ _ _ _ p q = p ∙ sym q

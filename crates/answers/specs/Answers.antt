@@ -1,9 +1,10 @@
 -- 01: "An answer is yes, no, or a refusal that carries its number and place."
-use Rattle.std.specs.Prelude.{Bool, true, false}
-use Rattle.answers.specs.declared.Answer.{Answer}
-use Rattle.answers.specs.declared.Answer.TheVariants.{Yes, No}
+use Rattle.std.specs.Prelude.{Bool, Result, Ok}
+use Rattle.answers.specs.declared.Refusal.{Refusal}
+
+abbrev pub Answer : Type 0
+Answer = Result Bool Refusal
 
 -- what an inside question that is not refused answers
 abbrev pub said : Bool → Answer
-said true = Yes
-said false = No
+said b = Ok b

@@ -1,13 +1,16 @@
-// What a call says when it says no: document 01's numbered refusals, each with its place. Every promise
-// is an equality with a definition of specs/, so that each call has one answer.
+// What a call says when it says no: document 01's numbered refusals, each with its place. A call that can refuse
+// answers a `Result` with one; an inside question answers an `Answer`. Every promise is an equality with a
+// definition of specs/, so that each call has one answer.
 #![tactic(auto)]
 
 ghost use Rattle.std.specs.Prelude.{◌≡◌};
-ghost use Rattle.answers.specs.Answers.{said};
 ghost use Rattle.answers.specs.Refusals.{number_of, place_of, zeroes_rooms};
 
+use std::error::Error;
+use std::fmt;
+
 // A refusal whose place the table gives as 0 always carries none.
-#[derive(Clone, Copy)]
+#[derive(Clone, Copy, Debug, PartialEq, Eq)]
 pub enum Refusal {
     TooFew(usize),
     TooMany(usize),
@@ -45,15 +48,10 @@ impl Refusal {
         ensures { result ≡ place_of self }
     {
         match self {
-            Refusal::TooFew(ring) => ring,
-            Refusal::TooMany(ring) => ring,
-            Refusal::SizesDiffer => 0,
+            Refusal::TooFew(ring) | Refusal::TooMany(ring) => ring,
             Refusal::NotClosed(ring) => ring,
-            Refusal::BadScale => 0,
-            Refusal::BadHeight => 0,
-            Refusal::NoRoom => 0,
-            Refusal::Damaged(at) => at,
-            Refusal::Loose(at) => at,
+            Refusal::Damaged(at) | Refusal::Loose(at) => at,
+            Refusal::SizesDiffer | Refusal::BadScale | Refusal::BadHeight | Refusal::NoRoom => 0,
         }
     }
 
@@ -62,32 +60,21 @@ impl Refusal {
         ensures { result ≡ zeroes_rooms self }
     {
         match self {
-            Refusal::TooFew(_) => false,
-            Refusal::TooMany(_) => false,
-            Refusal::SizesDiffer => false,
-            Refusal::NotClosed(_) => false,
-            Refusal::BadScale => false,
-            Refusal::BadHeight => false,
-            Refusal::NoRoom => true,
             Refusal::Damaged(_) => true,
-            Refusal::Loose(_) => true,
+            Refusal::NoRoom | Refusal::Loose(_) => true,
+            _ => false,
         }
     }
 }
 
-// What an inside question answers.
-#[derive(Clone, Copy)]
-pub enum Answer {
-    Yes,
-    No,
-    Refused(Refusal),
-}
+// What an inside question answers: yes, no, or a refusal.
+pub type Answer = Result<bool, Refusal>;
 
-impl Answer {
-    // The answer to a question that is not refused.
-    pub fn of(yes: bool) -> Answer
-        ensures { result ≡ said yes }
-    {
-        if yes { Answer::Yes } else { Answer::No }
+// As the sample sheet prints it.
+impl fmt::Display for Refusal {
+    fn fmt<W: fmt::Write>(&self, f: &mut fmt::Formatter<W>) -> fmt::Result {
+        write!(f, "refusal {}, place {}", self.number(), self.place())
     }
 }
+
+impl Error for Refusal {}

@@ -1,4 +1,3 @@
-pub mod Sides
 pub mod Sizes
 pub mod Quads
 pub mod Middle

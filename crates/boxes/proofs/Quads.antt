@@ -1,5 +1,6 @@
 -- 01's words on quadrants and the source's order of tests agree where no NaN is met; a segment's box that lies in a box lies in the quadrant that is
 -- chosen for it; and what is a coordinate stays one. Assumes nothing.
+use Rattle.std.specs.Prelude.{Some, None}
 use mathlib.Core.Path.{◌≡◌, refl, sym, ap, ◌∙◌, subst}
 use Prim.Native.Nat.{ℕ, zero, suc}
 use native.Mathlib.Omega.{arith}
@@ -8,7 +9,6 @@ use lib.Dec.{T}
 use lib.Ieee.{Float, is_nan, lt, le}
 use Rattle.floats.proofs.Order.{le_right, lt_is_not_le, lt_le}
 use Rattle.boxes.specs.declared.Rect.{Rect}
-use Rattle.boxes.specs.declared.Chosen.TheVariants.{Quadrant, Stays}
 use Rattle.boxes.specs.Quads.{mid_x, mid_y, quadrant, chosen, chosen_of_numbers, quad_bounds}
 use Rattle.boxes.proofs.Sizes.{Coordinate, coordinate_number, middle_coordinate}
 
@@ -73,17 +73,17 @@ module _ (b r : Rect) (p : Placed b) (l : Lies r b) where
   north_of_lem : not (lt r.min.y (mid_y b)) ≡ true → T (le (mid_y b) r.min.y)
   north_of_lem e = subst T (sym (sym (not_below_lem r.min.y (mid_y b) (le_right b.min.y r.min.y l.south) mid_y_lem) ∙ e)) tt
 
-  pub lies_in_quad : (q : ℕ) → chosen b r ≡ Quadrant q → Lies r (quad_bounds b q)
+  pub lies_in_quad : (q : ℕ) → chosen b r ≡ Some q → Lies r (quad_bounds b q)
   lies_in_quad q h = go (lt r.max.x (mid_x b)) (not (lt r.min.x (mid_x b))) (lt r.max.y (mid_y b)) (not (lt r.min.y (mid_y b))) refl refl refl refl h
     where
-      at : (k : ℕ) → Quadrant k ≡ Quadrant q → Lies r (quad_bounds b k) → Lies r (quad_bounds b q)
+      at : (k : ℕ) → Some k ≡ Some q → Lies r (quad_bounds b k) → Lies r (quad_bounds b q)
       at k e d = let same : k ≡ q = cc in subst (λ (z : ℕ). Lies r (quad_bounds b z)) same d
 
-      never : Stays ≡ Quadrant q → Lies r (quad_bounds b q)
+      never : None ≡ Some q → Lies r (quad_bounds b q)
       never e = let z : ◌≡◌ {A = ℕ} 0 1 = cc in absurd (omega arith)
 
       go : (w e s n : Bool) → lt r.max.x (mid_x b) ≡ w → not (lt r.min.x (mid_x b)) ≡ e → lt r.max.y (mid_y b) ≡ s → not (lt r.min.y (mid_y b)) ≡ n
-          → quadrant w e s n ≡ Quadrant q → Lies r (quad_bounds b q)
+          → quadrant w e s n ≡ Some q → Lies r (quad_bounds b q)
       go true e true n i j k m h = at 2 h (record { west = l.west; east = west_of_lem i; south = l.south; north = south_of_lem k })
       go true e false true i j k m h = at 0 h (record { west = l.west; east = west_of_lem i; south = north_of_lem m; north = l.north })
       go true e false false i j k m h = never h

@@ -1,9 +1,9 @@
 -- Worked cases of the definitions, by computing: who goes to a quadrant of the box from (0,0) to (10,10), whose middle is (5,5). Assumes nothing.
+use Rattle.std.specs.Prelude.{Some, None}
 use mathlib.Core.Path.{◌≡◌, refl}
 use lib.IntN.{ℤ, pos, negsuc}
 use lib.Ieee.{nan, binary64, add, div, lt, of_bits, of_int}
 use Rattle.boxes.specs.declared.Rect.{Rect}
-use Rattle.boxes.specs.declared.Chosen.TheVariants.{Quadrant, Stays}
 use Rattle.boxes.specs.Boxes.{side_at, south_of}
 use Rattle.boxes.specs.Quads.{box, chosen, quad_bounds}
 
@@ -14,21 +14,21 @@ abbrev square : Rect
 square = whole (pos 0) (pos 0) (pos 10) (pos 10)
 
 -- a segment that touches the middle from the west, or from the south, stays
-from_the_west : chosen square (whole (pos 1) (pos 6) (pos 5) (pos 9)) ≡ Stays
+from_the_west : chosen square (whole (pos 1) (pos 6) (pos 5) (pos 9)) ≡ None
 unfolding add div lt of_bits of_int
 from_the_west = refl
 
-from_the_south : chosen square (whole (pos 1) (pos 1) (pos 4) (pos 5)) ≡ Stays
+from_the_south : chosen square (whole (pos 1) (pos 1) (pos 4) (pos 5)) ≡ None
 unfolding add div lt of_bits of_int
 from_the_south = refl
 
 -- one that touches it from the east and from the north is in quadrant 1
-from_the_east : chosen square (whole (pos 5) (pos 5) (pos 9) (pos 9)) ≡ Quadrant 1
+from_the_east : chosen square (whole (pos 5) (pos 5) (pos 9) (pos 9)) ≡ Some 1
 unfolding add div lt of_bits of_int
 from_the_east = refl
 
 -- a box of NaNs is not below the middle
-of_nans : chosen square (box nan nan nan nan) ≡ Quadrant 1
+of_nans : chosen square (box nan nan nan nan) ≡ Some 1
 unfolding add div lt of_bits of_int
 of_nans = refl
 

@@ -1,11 +1,10 @@
 -- "Quadrants: 0 north-west, 1 north-east, 2 south-west, 3 south-east; the middle is (min+max)/2 rounded. West means max.x < middle, east means
 -- min.x >= middle; south and north likewise. A segment that is neither stays."
+use Rattle.std.specs.Prelude.{Option, Some, None}
 use Rattle.std.specs.Prelude.{Bool, true, false, not, ℕ, zero, suc, Float}
 use Rattle.std.specs.Float.{binary64}
 use Rattle.std.specs.Float.Ieee.{of_bits, add, div, lt, le}
 use Rattle.boxes.specs.declared.Rect.{Rect}
-use Rattle.boxes.specs.declared.Chosen.{Chosen}
-use Rattle.boxes.specs.declared.Chosen.TheVariants.{Quadrant, Stays}
 
 -- (min + max) / 2: one rounded sum, one rounded quotient by 2.0
 abbrev pub middle : Float → Float → Float
@@ -19,22 +18,22 @@ abbrev pub mid_y : Rect → Float
 mid_y b = middle b.min.y b.max.y
 
 -- the quadrant of a box that is west, east, south, north of the middle; what is neither west nor east, or neither south nor north, stays
-abbrev pub quadrant : Bool → Bool → Bool → Bool → Chosen
-quadrant true e true n = Quadrant 2
-quadrant true e false true = Quadrant 0
-quadrant true e false false = Stays
-quadrant false true true n = Quadrant 3
-quadrant false true false true = Quadrant 1
-quadrant false true false false = Stays
-quadrant false false s n = Stays
+abbrev pub quadrant : Bool → Bool → Bool → Bool → Option ℕ
+quadrant true e true n = Some 2
+quadrant true e false true = Some 0
+quadrant true e false false = None
+quadrant false true true n = Some 3
+quadrant false true false true = Some 1
+quadrant false true false false = None
+quadrant false false s n = None
 
 -- the words above as they stand, for a box b and a segment's box r
-abbrev pub chosen_of_numbers : Rect → Rect → Chosen
+abbrev pub chosen_of_numbers : Rect → Rect → Option ℕ
 chosen_of_numbers b r = quadrant (lt r.max.x (mid_x b)) (le (mid_x b) r.min.x) (lt r.max.y (mid_y b)) (le (mid_y b) r.min.y)
 
 -- For any floats, as the source has it: east is what is left when neither max.x nor min.x is below the middle, and north likewise.
 -- Where no NaN is met the two are one (proofs/Quads.antt).
-abbrev pub chosen : Rect → Rect → Chosen
+abbrev pub chosen : Rect → Rect → Option ℕ
 chosen b r = quadrant (lt r.max.x (mid_x b)) (not (lt r.min.x (mid_x b))) (lt r.max.y (mid_y b)) (not (lt r.min.y (mid_y b)))
 
 -- the box from (x₀, y₀) to (x₁, y₁)

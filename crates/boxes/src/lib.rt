@@ -3,53 +3,45 @@
 #![tactic(auto)]
 
 ghost use Rattle.std.specs.Prelude.{◌≡◌};
-ghost use Rattle.std.specs.Float.{binary64};
-ghost use Rattle.std.specs.Float.Ieee.{of_int};
 ghost use Rattle.boxes.specs.Boxes.{holds, meets, nw_of, sw_of, se_of, ne_of, south_of, east_of, north_of, west_of, side_at};
 ghost use Rattle.boxes.specs.Segments.{point_of, rect_of};
 ghost use Rattle.boxes.specs.Quads.{box, chosen, quad_bounds};
 
 use floats::{greater, lesser};
 
-#[derive(Clone, Copy)]
+#[derive(Clone, Copy, Debug, PartialEq)]
 pub struct Point {
     pub x: f64,
     pub y: f64,
 }
 
-// A stored point.
-#[derive(Clone, Copy)]
+// A stored point. It stays a type of its own beside `Point`, as `Segment` beside `Side`: 01 asks that a box hold two Points of f64,
+// and a type over the kind of coordinate would put that word into every promise that names a point.
+#[derive(Clone, Copy, Debug, PartialEq, Eq)]
 pub struct I32Point {
     pub x: i32,
     pub y: i32,
 }
 
 // A box: its lowest and its highest corner.
-#[derive(Clone, Copy)]
+#[derive(Clone, Copy, Debug, PartialEq)]
 pub struct Rect {
     pub min: Point,
     pub max: Point,
 }
 
 // A side of a box, from corner to corner.
-#[derive(Clone, Copy)]
+#[derive(Clone, Copy, Debug, PartialEq)]
 pub struct Side {
     pub a: Point,
     pub b: Point,
 }
 
 // A stored segment, from point to point.
-#[derive(Clone, Copy)]
+#[derive(Clone, Copy, Debug, PartialEq, Eq)]
 pub struct Segment {
     pub a: I32Point,
     pub b: I32Point,
-}
-
-// Where a segment goes when its node splits.
-#[derive(Clone, Copy)]
-pub enum Chosen {
-    Quadrant(usize),
-    Stays,
 }
 
 impl Rect {
@@ -106,14 +98,8 @@ impl Rect {
         ensures { result ≡ south_of self }
     {
         Side {
-            a: Point {
-                x: self.min.x,
-                y: self.min.y,
-            },
-            b: Point {
-                x: self.max.x,
-                y: self.min.y,
-            },
+            a: self.sw(),
+            b: self.se(),
         }
     }
 
@@ -121,14 +107,8 @@ impl Rect {
         ensures { result ≡ east_of self }
     {
         Side {
-            a: Point {
-                x: self.max.x,
-                y: self.min.y,
-            },
-            b: Point {
-                x: self.max.x,
-                y: self.max.y,
-            },
+            a: self.se(),
+            b: self.ne(),
         }
     }
 
@@ -136,14 +116,8 @@ impl Rect {
         ensures { result ≡ north_of self }
     {
         Side {
-            a: Point {
-                x: self.max.x,
-                y: self.max.y,
-            },
-            b: Point {
-                x: self.min.x,
-                y: self.max.y,
-            },
+            a: self.ne(),
+            b: self.nw(),
         }
     }
 
@@ -151,14 +125,8 @@ impl Rect {
         ensures { result ≡ west_of self }
     {
         Side {
-            a: Point {
-                x: self.min.x,
-                y: self.max.y,
-            },
-            b: Point {
-                x: self.min.x,
-                y: self.min.y,
-            },
+            a: self.nw(),
+            b: self.sw(),
         }
     }
 
@@ -174,20 +142,13 @@ impl Rect {
     }
 }
 
-// Every i32 is an f64.
-fn wide(n: i32) -> f64
-    ensures { result ≡ of_int binary64 n }
-{
-    n as f64
-}
-
 impl I32Point {
     pub fn point(self) -> Point
         ensures { result ≡ point_of self }
     {
         Point {
-            x: wide(self.x),
-            y: wide(self.y),
+            x: f64::from(self.x),
+            y: f64::from(self.y),
         }
     }
 }
@@ -213,7 +174,9 @@ impl Segment {
 
 // The quadrant of `bounds` that takes a segment whose box is `rect`. What is not below the middle is
 // east of it, or north.
-pub fn choose_quad(bounds: Rect, rect: Rect) -> Chosen
+// The same test is made on x and on y, written out twice: a function for one of them, with an Option to be told by `?`, is
+// no shorter, and would hide which side of the middle is which.
+pub fn choose_quad(bounds: Rect, rect: Rect) -> Option<usize>
     ensures { result ≡ chosen bounds rect }
 {
     let mid_x = (bounds.min.x + bounds.max.x) / 2.0;
@@ -224,23 +187,23 @@ pub fn choose_quad(bounds: Rect, rect: Rect) -> Chosen
     let north = !(rect.min.y < mid_y);
     if west {
         if south {
-            return Chosen::Quadrant(2);
+            return Some(2);
         }
         if north {
-            return Chosen::Quadrant(0);
+            return Some(0);
         }
-        return Chosen::Stays;
+        return None;
     }
     if east {
         if south {
-            return Chosen::Quadrant(3);
+            return Some(3);
         }
         if north {
-            return Chosen::Quadrant(1);
+            return Some(1);
         }
-        return Chosen::Stays;
+        return None;
     }
-    Chosen::Stays
+    None
 }
 
 fn spanned(west: f64, south: f64, east: f64, north: f64) -> Rect

@@ -1,36 +1,19 @@
 -- The laws behind how building stripes is told.
 use Prim.Native.Nat.{ℕ, zero, suc, ◌-◌, ◌≤◌}
-use mathlib.Core.Path.{◌≡◌, refl, sym}
-use mathlib.Core.Bool.{Bool, true, false, ◌&&◌}
+use mathlib.Core.Path.{◌≡◌, sym}
+use mathlib.Core.Bool.{true, false, ◌&&◌}
 use mathlib.Core.List.{List, [], ◌∷◌}
 use native.Mathlib.Omega.{arith}
 use lib.Dec.{leb}
 use lib.ListN.{length, replicate, set}
 use lib.Ieee.{Float}
-use borrow.Author.Tests.{leb-true}
 use Rattle.answers.specs.declared.Refusal.{Refusal}
 use Rattle.answers.specs.declared.Refusal.TheVariants.{NoRoom}
 use Rattle.answers.specs.Refusals.{zeroes_rooms}
-use Rattle.room.specs.Room.{pad}
+use Rattle.room.specs.Room.{padded, pad}
 use Rattle.stripes_build.specs.declared.StripesStats.{StripesStats}
 use Rattle.capi.specs.Told.{Told, refusal_told}
 use Rattle.capi.specs.Stripes.{zero_span, span_of, four, striped_told, refused_told}
-
-first : (a b : Bool) → (a && b) ≡ true → a ≡ true
-first true b e = refl
-first false b e = e
-
-second : (a b : Bool) → (a && b) ≡ true → b ≡ true
-second true b e = e
-second false true e = refl
-second false false e = e
-
--- what the test of both rooms says of each
-pub span_enough : (m n : ℕ) → (leb 2 m && leb 4 n) ≡ true → 2 ≤ m
-span_enough m n e = leb-true 2 m (first (leb 2 m) (leb 4 n) e)
-
-pub stats_enough : (m n : ℕ) → (leb 2 m && leb 4 n) ≡ true → 4 ≤ n
-stats_enough m n e = leb-true 4 n (second (leb 2 m) (leb 4 n) e)
 
 pub put_two : (n : ℕ) (z a b : Float) → 2 ≤ n → set (set (replicate n z) 0 a) 1 b ≡ a ∷ b ∷ replicate (n - 2) z
 put_two zero z a b h = absurd (omega (arith, h))
@@ -38,7 +21,7 @@ put_two (suc zero) z a b h = absurd (omega (arith, h))
 put_two (suc (suc n)) z a b h = let e : suc (suc n) - 2 ≡ n = omega arith in rw e
 
 pub put_four : (n a b c d : ℕ) → 4 ≤ n → set (set (set (set (replicate n 0) 0 a) 1 b) 2 c) 3 d ≡ pad n (a ∷ b ∷ c ∷ d ∷ [])
-unfolding pad
+unfolding padded
 put_four zero a b c d h = absurd (omega (arith, h))
 put_four (suc zero) a b c d h = absurd (omega (arith, h))
 put_four (suc (suc zero)) a b c d h = absurd (omega (arith, h))

@@ -10,8 +10,7 @@ use Rattle.answers.specs.Refusals.{number_of}
 use Rattle.wkb_shape.specs.declared.WkbRefusal.{WkbRefusal}
 use Rattle.wkb_shape.specs.declared.WkbRefusal.TheVariants.{Ends, Unknown, Unstored, Plain}
 use Rattle.wkb_shape.specs.Refusals.{wkb_number}
-use Rattle.wkb_read.specs.declared.ReadWkb.{ReadWkb}
-use Rattle.wkb_read.specs.Read.{Outcome}
+use Rattle.wkb_read.specs.Read.{ReadWkb, Outcome}
 use Rattle.capi.specs.Told.{Told, told}
 use Rattle.capi.specs.Wkb.{read_told, numbers_told, wkb_told}
 

@@ -41,10 +41,8 @@ use Rattle.capi.specs.contracts.told.tell_wkb_refusal
 use Rattle.capi.proofs.told.tell_wkb_refusal.Reads as tell_wkb_refusal_reads
 use Rattle.capi.specs.contracts.told.tell_answer
 use Rattle.capi.proofs.told.tell_answer.Reads as tell_answer_reads
-use Rattle.capi.specs.contracts.zeros.zero_fill_f64
-use Rattle.capi.proofs.zeros.zero_fill_f64.Reads as zero_fill_f64_reads
-use Rattle.capi.specs.contracts.zeros.zero_fill_u64
-use Rattle.capi.proofs.zeros.zero_fill_u64.Reads as zero_fill_u64_reads
+use Rattle.capi.specs.contracts.told.tell_count
+use Rattle.capi.proofs.told.tell_count.Reads as tell_count_reads
 
 -- a call's last parameter is `value`, and its promise tells it beside the result
 value_last : {Told Value Room : Type 0} {o o' : (Told × Value) × Room} → o ≡ o' → ◌≡◌ {A = Told × (Room × Value)} (o.0.0, (o.1, o.0.1)) (o'.0.0, (o'.1, o'.0.1))
@@ -110,8 +108,5 @@ one_tell_wkb_refusal _ _ _ _ _ _ p q = sym p ∙ q
 pub one_tell_answer : OneOutcome tell_answer.ended tell_answer_reads.Post
 one_tell_answer _ _ _ _ _ _ p q = sym p ∙ q
 
-pub one_zero_fill_f64 : OneOutcome zero_fill_f64.ended zero_fill_f64_reads.Post
-one_zero_fill_f64 _ _ _ _ _ _ p q = ap (λ o. (tt, o)) (p ∙ sym q)
-
-pub one_zero_fill_u64 : OneOutcome zero_fill_u64.ended zero_fill_u64_reads.Post
-one_zero_fill_u64 _ _ _ _ _ _ p q = ap (λ o. (tt, o)) (p ∙ sym q)
+pub one_tell_count : OneOutcome tell_count.ended tell_count_reads.Post
+one_tell_count _ _ _ _ _ _ p q = sym p ∙ q

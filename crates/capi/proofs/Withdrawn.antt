@@ -1,4 +1,5 @@
 -- Refusal 6 is withdrawn: no call of the C interface returns 106, by its own promise, whatever it is lent. Assumes nothing.
+use Rattle.std.specs.Prelude.{Ok, Err, Some, None}
 use Prim.Native.Nat.{ℕ}
 use mathlib.Core.Path.{◌≡◌, ap, ◌∙◌}
 use mathlib.Core.Bool.{Bool, true, false, cond, ◌&&◌}
@@ -9,29 +10,17 @@ use lib.ListN.{length, replicate}
 use lib.Ieee.{Float}
 use Rattle.answers.specs.declared.Refusal.{Refusal}
 use Rattle.answers.specs.declared.Refusal.TheVariants.{NoRoom}
-use Rattle.answers.specs.declared.Answer.{Answer}
-use Rattle.answers.specs.declared.Answer.TheVariants.{Yes, No, Refused}
+use Rattle.answers.specs.Answers.{Answer}
 use Rattle.answers.specs.Refusals.{zeroes_rooms}
 use Rattle.answers.proofs.Withdrawn.{never_six}
 use Rattle.room.specs.Room.{pad}
-use Rattle.rings.specs.declared.Listed.{Listed}
-use Rattle.rings.specs.declared.Listed.TheVariants.{Count, Unlisted}
-use Rattle.stripes_find.specs.declared.StripesListed.{StripesListed}
-use Rattle.stripes_find.specs.declared.StripesListed.TheVariants.{StripesFound, StripesUnlisted}
-use Rattle.tree_find.specs.declared.TreeListed.{TreeListed}
-use Rattle.tree_find.specs.declared.TreeListed.TheVariants.{TreeFound, TreeUnlisted}
-use Rattle.turn.specs.declared.Turned.{Turned}
-use Rattle.turn.specs.declared.Turned.TheVariants.{Turns, Unturned}
-use Rattle.turn.specs.declared.Turning.TheVariants.{Anticlockwise, Clockwise, None}
+use Rattle.rings.specs.Listing.{Listed}
+use Rattle.turn.specs.Turn.{Turned}
+use Rattle.turn.specs.declared.Turning.TheVariants.{Anticlockwise, Clockwise, None as NoTurn}
 use Rattle.stripes_build.specs.declared.StripesStats.{StripesStats}
-use Rattle.stripes_build.specs.declared.StripesBuilt.{StripesBuilt}
-use Rattle.stripes_build.specs.declared.StripesBuilt.TheVariants.{Striped, Unstriped, StripesRefused}
-use Rattle.tree_build.specs.declared.TreeBuilt.{TreeBuilt}
-use Rattle.tree_build.specs.declared.TreeBuilt.TheVariants.{Packed, Unpacked, TreeRefused}
-use Rattle.outline_record.specs.declared.Made.{Made}
-use Rattle.outline_record.specs.declared.Made.TheVariants.{Rings, Unmade}
-use Rattle.outline_build.specs.declared.Built.{Built}
-use Rattle.outline_build.specs.declared.Built.TheVariants.{Indexed, Unbuilt}
+use Rattle.stripes_build.specs.Build.{StripesBuilt}
+use Rattle.tree_build.specs.Build.{TreeBuilt}
+use Rattle.outline_build.specs.Indexes.{Built}
 use Rattle.rings.specs.Listing.{scanned}
 use Rattle.grid.specs.Rings.{grid_ring}
 use Rattle.turn.specs.Turn.{turned as turn_of}
@@ -48,8 +37,7 @@ use Rattle.outline_ask.specs.Inside.{inside_of}
 use Rattle.outline_agree.specs.Plain.{plain_inside}
 use Rattle.wkb_shape.specs.declared.WkbRefusal.{WkbRefusal}
 use Rattle.wkb_shape.specs.declared.WkbRefusal.TheVariants.{Ends, Unknown, Unstored, Plain}
-use Rattle.wkb_read.specs.declared.ReadWkb.{ReadWkb}
-use Rattle.wkb_read.specs.declared.ReadWkb.TheVariants.{Read, Unread}
+use Rattle.wkb_read.specs.Read.{ReadWkb}
 use Rattle.wkb_read.specs.Read.{wkb_read}
 use Rattle.outline_build.specs.Indexes.{indexes_built}
 use Rattle.capi.specs.Told.{Told, told, refusal_told, answer_told, is_set, point}
@@ -84,36 +72,30 @@ refused : (why : Refusal) → Never (refusal_told why)
 refused why e = never_six why (omega arith)
 
 answered : (answer : Answer) → Never (answer_told answer)
-answered Yes e = omega arith
-answered No e = omega arith
-answered (Refused why) e = refused why e
+answered (Ok true) e = omega arith
+answered (Ok false) e = omega arith
+answered (Err why) e = refused why e
 
 listed : (answer : Listed) → Never (list_told answer)
-listed (Count n) e = omega arith
-listed (Unlisted why) e = refused why e
+listed (Ok n) e = omega arith
+listed (Err why) e = refused why e
 
-stripes_listed_lem : (answer : StripesListed) → Never (stripes_told answer)
-stripes_listed_lem (StripesFound n) e = omega arith
-stripes_listed_lem (StripesUnlisted why) e = refused why e
+stripes_listed_lem : (answer : Listed) → Never (stripes_told answer)
+stripes_listed_lem = listed
 
-tree_listed_lem : (answer : TreeListed) → Never (tree_told answer)
-tree_listed_lem (TreeFound n) e = omega arith
-tree_listed_lem (TreeUnlisted why) e = refused why e
+tree_listed_lem : (answer : Listed) → Never (tree_told answer)
+tree_listed_lem = listed
 
 turned : (answer : Turned) → Never (turn_told answer)
-turned (Turns Anticlockwise) e = omega arith
-turned (Turns Clockwise) e = omega arith
-turned (Turns None) e = omega arith
-turned (Unturned why) e = refused why e
+turned (Ok Anticlockwise) e = omega arith
+turned (Ok Clockwise) e = omega arith
+turned (Ok NoTurn) e = omega arith
+turned (Err why) e = refused why e
 
 packed : (answer : TreeBuilt) → Never (packed_told answer)
-packed (Packed n) e = omega arith
-packed Unpacked e = omega arith
-packed (TreeRefused why) e = refused why e
-
-made : (answer : Made) → Never (made_told answer)
-made (Rings n) e = omega arith
-made (Unmade why) e = refused why e
+packed (Ok (Some n)) e = omega arith
+packed (Ok None) e = omega arith
+packed (Err why) e = refused why e
 
 wkb_refused : (why : WkbRefusal) → Never (wkb_refusal_told why)
 wkb_refused (Ends at) e = omega arith
@@ -122,12 +104,12 @@ wkb_refused (Unstored ring) e = omega arith
 wkb_refused (Plain why) e = never_six why (omega arith)
 
 wkb_told_lem : (answer : ReadWkb) → Never (read_told answer)
-wkb_told_lem (Read rings numbers) e = omega arith
-wkb_told_lem (Unread why) e = wkb_refused why e
+wkb_told_lem (Ok (rings, numbers)) e = omega arith
+wkb_told_lem (Err why) e = wkb_refused why e
 
 indexed : (answer : Built) → Never (indexed_told answer)
-indexed (Indexed n) e = omega arith
-indexed (Unbuilt why) e = refused why e
+indexed (Ok n) e = omega arith
+indexed (Err why) e = refused why e
 
 -- the two rooms more of a stripe build may be short, or left alone
 one_of : (t : Bool) (a b : Outcome) → Never a.0 → Never b.0 → Never (cond t a b).0
@@ -154,9 +136,9 @@ refused_striped why span room =
     one_of_two (zeroes_rooms why) (refusal_told why, zero_span (length span), replicate (length room) 0) (refusal_told why, span, room) (refused why) (refused why)
 
 built : (x : StripesBuilt × List ℕ × List ℕ) (span : List Float) (room : List ℕ) → Never (built_all x span room).0
-built (Striped least height stats, stripes, list) span room = striped least height stats stripes list span room
-built (Unstriped, stripes, list) span room = λ (e : ◌≡◌ {A = ℕ} 0 106). omega arith
-built (StripesRefused why, stripes, list) span room = refused_striped why span room
+built (Ok (Some b), stripes, list) span room = striped b.least b.height b.stats stripes list span room
+built (Ok None, stripes, list) span room = λ (e : ◌≡◌ {A = ℕ} 0 106). omega arith
+built (Err why, stripes, list) span room = refused_striped why span room
 
 packed_all_lem : (x : TreeBuilt × List ℕ × List ℕ) → Never (packed_all x).0
 packed_all_lem (answer, bytes, work) = packed answer
@@ -212,7 +194,7 @@ never_build_tree κs a z e p six =
 
 never_make : (κs : _) (a : _) (z : _) (e : _) → make.Post κs a z e → z ≡ 106 → ⊥
 never_make κs a z e p six =
-    in_room made_told made (boxes_made a.1.1.0 a.0.now a.1.0.now a.1.1.1.1.0.now) (ap (λ w. w.0.0) p ∙ six)
+    in_room made_told listed (boxes_made a.1.1.0 a.0.now a.1.0.now a.1.1.1.1.0.now) (ap (λ w. w.0.0) p ∙ six)
 
 never_build : (κs : _) (a : _) (z : _) (e : _) → build.Post κs a z e → z ≡ 106 → ⊥
 never_build κs a z e p six =

@@ -1,8 +1,7 @@
 -- How building the indexes of all rings is asked for and told: 0 and how many rings there are.
-use Rattle.std.specs.Prelude.{ℕ, ◌/◌, ◌%◌, List, eqb, Float}
+use Rattle.std.specs.Prelude.{Ok, Err, ℕ, ◌/◌, ◌%◌, List, eqb, Float}
 use Rattle.outline_index.specs.declared.BuildOptions.{BuildOptions}
-use Rattle.outline_build.specs.declared.Built.{Built}
-use Rattle.outline_build.specs.declared.Built.TheVariants.{Indexed, Unbuilt}
+use Rattle.outline_build.specs.Indexes.{Built}
 use Rattle.capi.specs.Told.{Told, refusal_told}
 
 -- bit 0 asks for stripes, bit 1 for trees
@@ -11,8 +10,8 @@ options_of options threshold =
     record { enable_y_stripes = eqb (options % 2) 1; enable_compressed_quad = eqb (options / 2 % 2) 1; min_segments = threshold }
 
 abbrev pub indexed_told : Built → Told
-indexed_told (Indexed n) = (0, n)
-indexed_told (Unbuilt why) = refusal_told why
+indexed_told (Ok n) = (0, n)
+indexed_told (Err why) = refusal_told why
 
 -- what is returned with value; the table, spans, stripes, list, bytes and work room
 abbrev pub Outcome : Type 0

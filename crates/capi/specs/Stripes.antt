@@ -1,6 +1,6 @@
 -- How building a ring's stripes is told: 1 and the stripe count where they were built, 0 under the threshold. Beside the stripes and the list two
 -- rooms more are lent: one for least and height, one for the four statistics.
-use Rattle.std.specs.Prelude.{ℕ, ◌-◌, List, [], ◌∷◌, cond, ◌&&◌, leb, length, replicate, Float}
+use Rattle.std.specs.Prelude.{Ok, Err, Some, None, ℕ, ◌-◌, List, [], ◌∷◌, cond, ◌&&◌, leb, length, replicate, Float}
 use Rattle.std.specs.Float.{binary64}
 use Rattle.std.specs.Float.Ieee.{of_bits}
 use Rattle.answers.specs.declared.Refusal.{Refusal}
@@ -8,8 +8,7 @@ use Rattle.answers.specs.declared.Refusal.TheVariants.{NoRoom}
 use Rattle.answers.specs.Refusals.{zeroes_rooms}
 use Rattle.room.specs.Room.{pad}
 use Rattle.stripes_build.specs.declared.StripesStats.{StripesStats}
-use Rattle.stripes_build.specs.declared.StripesBuilt.{StripesBuilt}
-use Rattle.stripes_build.specs.declared.StripesBuilt.TheVariants.{Striped, Unstriped, StripesRefused}
+use Rattle.stripes_build.specs.Build.{StripesBuilt}
 use Rattle.capi.specs.Told.{Told, refusal_told}
 
 -- room for n floats that is zero
@@ -49,9 +48,9 @@ abbrev pub with_lists : List ℕ → List ℕ → Told × List Float × List ℕ
 with_lists stripes list (said, span, stats) = (said, stripes, list, span, stats)
 
 abbrev pub built_told : StripesBuilt → List ℕ → List ℕ → List Float → List ℕ → Outcome
-built_told (Striped least height told) stripes list span stats = striped_told least height told stripes list span stats
-built_told Unstriped stripes list span stats = with_lists stripes list (unstriped_told span stats)
-built_told (StripesRefused why) stripes list span stats = with_lists stripes list (refused_told why span stats)
+built_told (Ok (Some built)) stripes list span stats = striped_told built.least built.height built.stats stripes list span stats
+built_told (Ok None) stripes list span stats = with_lists stripes list (unstriped_told span stats)
+built_told (Err why) stripes list span stats = with_lists stripes list (refused_told why span stats)
 
 -- the answer comes with the stripes and the list as the build left them
 abbrev pub built_all : StripesBuilt × List ℕ × List ℕ → List Float → List ℕ → Outcome

@@ -1,8 +1,7 @@
 -- How an answer is told through the C interface: the number that a call returns, and the number that it leaves in `value`.
-use Rattle.std.specs.Prelude.{ℕ, ◌+◌, Bool, not, eqb, Float}
+use Rattle.std.specs.Prelude.{Ok, Err, ℕ, ◌+◌, Bool, true, false, not, eqb, Float}
 use Rattle.answers.specs.declared.Refusal.{Refusal}
-use Rattle.answers.specs.declared.Answer.{Answer}
-use Rattle.answers.specs.declared.Answer.TheVariants.{Yes, No, Refused}
+use Rattle.answers.specs.Answers.{Answer}
 use Rattle.answers.specs.Refusals.{number_of, place_of}
 use Rattle.boxes.specs.declared.Point.{Point}
 
@@ -16,9 +15,9 @@ refusal_told why = (100 + number_of why, place_of why)
 
 -- 1 for yes and 0 for no
 abbrev pub answer_told : Answer → Told
-answer_told Yes = (1, 0)
-answer_told No = (0, 0)
-answer_told (Refused why) = refusal_told why
+answer_told (Ok true) = (1, 0)
+answer_told (Ok false) = (0, 0)
+answer_told (Err why) = refusal_told why
 
 -- an answer that comes with the content of lent room
 abbrev pub told : {A B : Type 0} → (A → Told) → A × B → Told × B

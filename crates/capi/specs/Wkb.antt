@@ -1,9 +1,8 @@
 -- How reading well-known binary is told.
-use Rattle.std.specs.Prelude.{ℕ, ◌+◌, List, ℤ}
+use Rattle.std.specs.Prelude.{Ok, Err, ℕ, ◌+◌, List, ℤ}
 use Rattle.wkb_shape.specs.declared.WkbRefusal.{WkbRefusal}
 use Rattle.wkb_shape.specs.Refusals.{wkb_number, wkb_place}
-use Rattle.wkb_read.specs.declared.ReadWkb.{ReadWkb}
-use Rattle.wkb_read.specs.declared.ReadWkb.TheVariants.{Read, Unread}
+use Rattle.wkb_read.specs.Read.{ReadWkb}
 use Rattle.wkb_read.specs.Read.{Outcome}
 use Rattle.capi.specs.Told.{Told}
 
@@ -13,13 +12,13 @@ wkb_refusal_told why = (100 + wkb_number why, wkb_place why)
 
 -- 0 and how many rings there are
 abbrev pub read_told : ReadWkb → Told
-read_told (Read rings numbers) = (0, rings)
-read_told (Unread why) = wkb_refusal_told why
+read_told (Ok (rings, numbers)) = (0, rings)
+read_told (Err why) = wkb_refusal_told why
 
 -- how many numbers there are, 0 with a refusal
 abbrev pub numbers_told : ReadWkb → ℕ
-numbers_told (Read rings numbers) = numbers
-numbers_told (Unread why) = 0
+numbers_told (Ok (rings, numbers)) = numbers
+numbers_told (Err why) = 0
 
 -- with the content of both rooms
 abbrev pub wkb_told : Outcome → Told × ℕ × List ℕ × List ℤ

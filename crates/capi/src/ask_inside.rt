@@ -9,6 +9,7 @@ use crate::outlines::outline_of;
 use crate::told::{is_set, tell_answer};
 use boxes::Point;
 use outline_ask::inside;
+use outline_ring::Indexes;
 
 // The inside question, through any indexes.
 #[unsafe(no_mangle)]
@@ -33,10 +34,15 @@ pub extern "C" fn brothstitch_inside(
     let outline = outline_of(scale, mode);
     let p = Point { x, y };
     let allowed = is_set(edge);
+    let indexes = Indexes {
+        table,
+        spans,
+        stripes,
+        list,
+        bytes,
+    };
     tell_answer(
-        inside(
-            outline, sizes, coords, boxes, table, spans, stripes, list, bytes, p, allowed,
-        ),
+        inside(outline, sizes, coords, boxes, indexes, p, allowed),
         value,
     )
 }

@@ -1,9 +1,9 @@
 ghost use Rattle.std.specs.Prelude.{◌≡◌};
 ghost use Rattle.outline_build.specs.Indexes.{indexes_built};
-ghost use Rattle.capi.specs.Indexes.{options_of, indexed_told, indexed_all};
+ghost use Rattle.capi.specs.Indexes.{options_of, indexed_all};
 
-use crate::told::tell_refusal;
-use outline_build::{Built, build_indexes};
+use crate::told::tell_count;
+use outline_build::build_indexes;
 use outline_index::BuildOptions;
 
 fn options_of(options: u32, threshold: usize) -> BuildOptions
@@ -13,18 +13,6 @@ fn options_of(options: u32, threshold: usize) -> BuildOptions
         enable_y_stripes: options % 2 == 1,
         enable_compressed_quad: options / 2 % 2 == 1,
         min_segments: threshold,
-    }
-}
-
-fn tell_indexed(answer: Built, value: &mut u64) -> u32
-    ensures { indexed_told answer ≡ (result, value.new) }
-{
-    match answer {
-        Built::Indexed(n) => {
-            *value = n as u64;
-            0
-        }
-        Built::Unbuilt(why) => tell_refusal(why, value),
     }
 }
 
@@ -49,5 +37,5 @@ pub extern "C" fn brothstitch_build(
     let answer = build_indexes(
         sizes, coords, asked, table, spans, stripes, list, bytes, work,
     );
-    tell_indexed(answer, value)
+    tell_count(answer, value)
 }

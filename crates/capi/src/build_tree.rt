@@ -3,21 +3,22 @@ ghost use Rattle.tree_build.specs.Build.{tree_built};
 ghost use Rattle.capi.specs.Trees.{packed_told, packed_all};
 
 use crate::told::tell_refusal;
-use tree_build::{TreeBuilt, build_tree};
+use answers::Refusal;
+use tree_build::build_tree;
 
-fn tell_built(answer: TreeBuilt, value: &mut u64) -> u32
+fn tell_built(answer: Result<Option<usize>, Refusal>, value: &mut u64) -> u32
     ensures { packed_told answer ≡ (result, value.new) }
 {
     match answer {
-        TreeBuilt::Packed(n) => {
+        Ok(Some(n)) => {
             *value = n as u64;
             1
         }
-        TreeBuilt::Unpacked => {
+        Ok(None) => {
             *value = 0;
             0
         }
-        TreeBuilt::TreeRefused(why) => tell_refusal(why, value),
+        Err(why) => tell_refusal(why, value),
     }
 }
 

@@ -3,20 +3,8 @@ ghost use Rattle.rings.specs.Listing.{scanned};
 ghost use Rattle.capi.specs.Told.{told};
 ghost use Rattle.capi.specs.Lists.{list_told};
 
-use crate::told::tell_refusal;
-use rings::{Listed, scan};
-
-fn tell_listed(answer: Listed, value: &mut u64) -> u32
-    ensures { list_told answer ≡ (result, value.new) }
-{
-    match answer {
-        Listed::Count(n) => {
-            *value = n as u64;
-            0
-        }
-        Listed::Unlisted(why) => tell_refusal(why, value),
-    }
-}
+use crate::told::tell_count;
+use rings::scan;
 
 // The segments of a ring whose closed height range holds y, by rising number.
 #[unsafe(no_mangle)]
@@ -30,5 +18,5 @@ pub extern "C" fn brothstitch_list_scan(
     ensures { told list_told (scanned coords.now points y out.old) ≡ ((result, value.new), out.new) }
 {
     let answer = scan(coords, points, y, out);
-    tell_listed(answer, value)
+    tell_count(answer, value)
 }

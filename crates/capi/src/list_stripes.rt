@@ -3,20 +3,8 @@ ghost use Rattle.stripes_find.specs.Listing.{stripes_listed};
 ghost use Rattle.capi.specs.Told.{told};
 ghost use Rattle.capi.specs.Lists.{stripes_told};
 
-use crate::told::tell_refusal;
-use stripes_find::{StripesListed, stripes_list};
-
-fn tell_listed(answer: StripesListed, value: &mut u64) -> u32
-    ensures { stripes_told answer ≡ (result, value.new) }
-{
-    match answer {
-        StripesListed::StripesFound(n) => {
-            *value = n as u64;
-            0
-        }
-        StripesListed::StripesUnlisted(why) => tell_refusal(why, value),
-    }
-}
+use crate::told::tell_count;
+use stripes_find::{StripeIndex, stripes_list};
 
 // The same list, by any stripe index.
 #[unsafe(no_mangle)]
@@ -33,6 +21,12 @@ pub extern "C" fn brothstitch_list_stripes(
 ) -> u32
     ensures { told stripes_told (stripes_listed coords.now points least height stripes.now list.now y out.old) ≡ ((result, value.new), out.new) }
 {
-    let answer = stripes_list(coords, points, least, height, stripes, list, y, out);
-    tell_listed(answer, value)
+    let index = StripeIndex {
+        least,
+        height,
+        stripes,
+        list,
+    };
+    let answer = stripes_list(coords, points, index, y, out);
+    tell_count(answer, value)
 }

@@ -3,20 +3,8 @@ ghost use Rattle.tree_find.specs.Find.{tree_listed};
 ghost use Rattle.capi.specs.Told.{told};
 ghost use Rattle.capi.specs.Lists.{tree_told};
 
-use crate::told::tell_refusal;
-use tree_find::{TreeListed, tree_list};
-
-fn tell_listed(answer: TreeListed, value: &mut u64) -> u32
-    ensures { tree_told answer ≡ (result, value.new) }
-{
-    match answer {
-        TreeListed::TreeFound(n) => {
-            *value = n as u64;
-            0
-        }
-        TreeListed::TreeUnlisted(why) => tell_refusal(why, value),
-    }
-}
+use crate::told::tell_count;
+use tree_find::tree_list;
 
 // The same segments, by the bytes of any packed tree and in its order.
 #[unsafe(no_mangle)]
@@ -31,5 +19,5 @@ pub extern "C" fn brothstitch_list_tree(
     ensures { told tree_told (tree_listed coords.now points bytes.now y out.old) ≡ ((result, value.new), out.new) }
 {
     let answer = tree_list(coords, points, bytes, y, out);
-    tell_listed(answer, value)
+    tell_count(answer, value)
 }

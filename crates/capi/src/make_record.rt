@@ -4,20 +4,8 @@ ghost use Rattle.capi.specs.Told.{told};
 ghost use Rattle.capi.specs.Outlines.{made_told};
 
 use crate::outlines::outline_of;
-use crate::told::tell_refusal;
-use outline_record::{Made, make_boxes};
-
-fn tell_made(answer: Made, value: &mut u64) -> u32
-    ensures { made_told answer ≡ (result, value.new) }
-{
-    match answer {
-        Made::Rings(n) => {
-            *value = n as u64;
-            0
-        }
-        Made::Unmade(why) => tell_refusal(why, value),
-    }
-}
+use crate::told::tell_count;
+use outline_record::make_boxes;
 
 // Checks an outline and makes the record of its boxes.
 #[unsafe(no_mangle)]
@@ -33,5 +21,5 @@ pub extern "C" fn brothstitch_make(
 {
     let outline = outline_of(scale, mode);
     let answer = make_boxes(outline, sizes, coords, boxes);
-    tell_made(answer, value)
+    tell_count(answer, value)
 }

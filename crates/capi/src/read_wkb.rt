@@ -3,26 +3,21 @@ ghost use Rattle.wkb_read.specs.Read.{wkb_read};
 ghost use Rattle.capi.specs.Wkb.{read_told, numbers_told, wkb_told};
 
 use crate::told::tell_wkb_refusal;
-use wkb_read::ReadWkb;
+use wkb_shape::WkbRefusal;
 
-fn tell_numbers(answer: ReadWkb, numbers: &mut u64)
-    ensures { numbers_told answer ≡ numbers.new }
+fn tell_read(answer: Result<(usize, usize), WkbRefusal>, numbers: &mut u64, value: &mut u64) -> u32
+    ensures { (read_told answer ≡ (result, value.new)) × (numbers_told answer ≡ numbers.new) }
 {
     match answer {
-        ReadWkb::Read(_, n) => *numbers = n as u64,
-        ReadWkb::Unread(_) => *numbers = 0,
-    }
-}
-
-fn tell_read(answer: ReadWkb, value: &mut u64) -> u32
-    ensures { read_told answer ≡ (result, value.new) }
-{
-    match answer {
-        ReadWkb::Read(rings, _) => {
+        Ok((rings, n)) => {
+            *numbers = n as u64;
             *value = rings as u64;
             0
         }
-        ReadWkb::Unread(why) => tell_wkb_refusal(why, value),
+        Err(why) => {
+            *numbers = 0;
+            tell_wkb_refusal(why, value)
+        }
     }
 }
 
@@ -39,6 +34,5 @@ pub extern "C" fn brothstitch_read_wkb(
     ensures { wkb_told (wkb_read sizes.old coords.old scale bytes.now) ≡ ((result, value.new), numbers.new, sizes.new, coords.new) }
 {
     let answer = wkb_read::read_wkb(bytes, scale, sizes, coords);
-    tell_numbers(answer, numbers);
-    tell_read(answer, value)
+    tell_read(answer, numbers, value)
 }

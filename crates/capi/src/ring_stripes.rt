@@ -4,6 +4,7 @@ ghost use Rattle.capi.specs.Told.{is_set, point, answer_told};
 
 use crate::told::{is_set, tell_answer};
 use boxes::Point;
+use stripes_find::StripeIndex;
 use stripes_test::stripes_test;
 
 // The ring test by any stripe index.
@@ -24,8 +25,11 @@ pub extern "C" fn brothstitch_ring_stripes(
 {
     let p = Point { x, y };
     let allowed = is_set(edge);
-    tell_answer(
-        stripes_test(coords, points, least, height, stripes, list, p, allowed),
-        value,
-    )
+    let index = StripeIndex {
+        least,
+        height,
+        stripes,
+        list,
+    };
+    tell_answer(stripes_test(coords, points, index, p, allowed), value)
 }

@@ -3,7 +3,7 @@ ghost use Rattle.turn.specs.Turn.{turned};
 ghost use Rattle.capi.specs.Rings.{turn_told};
 
 use crate::told::tell_refusal;
-use turn::{Turned, turn};
+use turn::turn;
 
 // The turn of a ring: 1 anticlockwise, 0 clockwise, 2 none.
 #[unsafe(no_mangle)]
@@ -11,10 +11,10 @@ pub extern "C" fn brothstitch_turn(coords: &[i32], points: usize, value: &mut u6
     ensures { turn_told (turned coords.now points) ≡ (result, value.new) }
 {
     match turn(coords, points) {
-        Turned::Turns(turning) => {
+        Ok(turning) => {
             *value = 0;
             turning.number()
         }
-        Turned::Unturned(why) => tell_refusal(why, value),
+        Err(why) => tell_refusal(why, value),
     }
 }

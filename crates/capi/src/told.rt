@@ -1,6 +1,7 @@
 // How answers are told.
 ghost use Rattle.std.specs.Prelude.{◌≡◌};
 ghost use Rattle.capi.specs.Told.{is_set, refusal_told, answer_told};
+ghost use Rattle.capi.specs.Lists.{list_told};
 ghost use Rattle.capi.specs.Wkb.{wkb_refusal_told};
 
 use answers::{Answer, Refusal};
@@ -16,8 +17,7 @@ pub fn is_set(option: u32) -> bool
 pub fn tell_refusal(why: Refusal, value: &mut u64) -> u32
     ensures { refusal_told why ≡ (result, value.new) }
 {
-    *value = why.place() as u64;
-    100 + why.number()
+    tell_wkb_refusal(WkbRefusal::from(why), value)
 }
 
 pub fn tell_wkb_refusal(why: WkbRefusal, value: &mut u64) -> u32
@@ -31,14 +31,23 @@ pub fn tell_answer(answer: Answer, value: &mut u64) -> u32
     ensures { answer_told answer ≡ (result, value.new) }
 {
     match answer {
-        Answer::Yes => {
+        Ok(yes) => {
             *value = 0;
-            1
+            u32::from(yes)
         }
-        Answer::No => {
-            *value = 0;
+        Err(why) => tell_refusal(why, value),
+    }
+}
+
+// How many were listed, or stored, or built.
+pub fn tell_count(answer: Result<usize, Refusal>, value: &mut u64) -> u32
+    ensures { list_told answer ≡ (result, value.new) }
+{
+    match answer {
+        Ok(n) => {
+            *value = n as u64;
             0
         }
-        Answer::Refused(why) => tell_refusal(why, value),
+        Err(why) => tell_refusal(why, value),
     }
 }

@@ -1,15 +1,15 @@
 -- 01, "Asking": the ring test by `raycast`, of segments that are listed by whatever means, and of those that a scan lists.
+use Rattle.std.specs.Prelude.{Ok}
 use Rattle.std.specs.Prelude.{Bool, true, false, cond, ◌&&◌, List, ℕ, ℤ, Float}
 use Rattle.std.specs.Float.Ieee.Scale.{finite}
-use Rattle.answers.specs.declared.Answer.{Answer}
-use Rattle.answers.specs.declared.Answer.TheVariants.{No}
+use Rattle.answers.specs.Answers.{Answer}
 use Rattle.answers.specs.Answers.{said}
 use Rattle.boxes.specs.declared.Point.{Point}
 use Rattle.rays.specs.declared.RaycastResult.{RaycastResult}
 use Rattle.rays.specs.declared.RaycastResult.TheVariants.{On, Inside, Neither}
 use Rattle.rays.specs.Raycast.{cast_of}
 use Rattle.room.specs.Numbers.{up_to}
-use Rattle.rings.specs.declared.Checked.{Checked}
+use Rattle.rings.specs.Checks.{Checked}
 use Rattle.rings.specs.Ring.{wide, side_at, holds_height, meeting}
 use Rattle.rings.specs.Checks.{ring_checked, when_sound}
 use Rattle.rings.specs.RingTest.{ring_test}
@@ -39,7 +39,7 @@ scan_of ring n p edge = test_of ring p edge (up_to (λ i. holds_height (side_at 
 -- "A ring without an index is scanned": the ring test by scan, of a ring that passed its checks.
 -- "a query that is NaN or infinite .. is outside"
 abbrev pub scan_test : (ℕ → Float) → ℕ → Point → Bool → Answer
-scan_test ring points p edge = cond (finite p.x && finite p.y) (said (test_of ring p edge (meeting ring points p.y))) No
+scan_test ring points p edge = cond (finite p.x && finite p.y) (said (test_of ring p edge (meeting ring points p.y))) (Ok false)
 
 -- the checks come first
 unfoldable pub scan_tested_by : Checked → (ℕ → Float) → ℕ → Point → Bool → Answer

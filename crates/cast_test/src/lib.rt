@@ -5,37 +5,16 @@ ghost use Rattle.std.specs.Prelude.{◌≡◌, ◌+◌, ◌*◌, ◌<◌, ◌≤
 ghost use Rattle.answers.specs.Answers.{said};
 ghost use Rattle.rings.specs.Ring.{wide};
 ghost use Rattle.cast_test.specs.Test.{cast_at, scan_of, scan_tested};
-ghost use Rattle.cast_test.specs.Inner.Steps.{seen_next, step_of};
+ghost use Rattle.cast_test.specs.Inner.Steps.{step_of};
 
 use answers::Answer;
 use boxes::Point;
 use floats::is_finite;
 use rays::{RaycastResult, cast};
-use rings::{Checked, check_ring, holds_height};
-
-// What is known so far: whether the point is on a segment, and else the answer.
-#[derive(Clone, Copy)]
-pub struct Seen {
-    pub on: bool,
-    pub inside: bool,
-}
-
-fn next(cast: RaycastResult, seen: Seen) -> Seen
-    ensures { result ≡ seen_next cast seen }
-{
-    let on = seen.on;
-    let inside = seen.inside;
-    match cast {
-        RaycastResult::On => Seen { on: true, inside },
-        RaycastResult::Inside => Seen {
-            on,
-            inside: !inside,
-        },
-        RaycastResult::Neither => Seen { on, inside },
-    }
-}
+use rings::{check_ring, holds_height};
 
 // What `raycast` says of segment i. For the crates above, which have checked the ring.
+#[tactic(auto, unfolding(rays::specs::Raycast::raycast_of))]
 pub fn cast_at(ring: &[i32], i: usize, p: Point) -> RaycastResult
     requires { i * 2 + 3 < length ring.now }
     ensures { result ≡ cast_at (wide ring.now) i p }
@@ -47,18 +26,22 @@ pub fn cast_at(ring: &[i32], i: usize, p: Point) -> RaycastResult
     cast(ax, ay, bx, by, p.x, p.y)
 }
 
-// What segment i makes of it. For the crates above, which have checked the ring.
-pub fn step(ring: &[i32], i: usize, p: Point, seen: Seen) -> Seen
+// What segment i makes of what is known so far: `None` once the point is on a segment, and else the answer. For the
+// crates above, which have checked the ring.
+#[tactic(auto, unfolding(crate::specs::Inner::Steps::step_of))]
+pub fn step(ring: &[i32], i: usize, p: Point, seen: Option<bool>) -> Option<bool>
     requires { i * 2 + 3 < length ring.now }
     ensures { result ≡ step_of (wide ring.now) i p seen }
 {
-    if seen.on {
+    let inside = seen?;
+    if !holds_height(ring, i, p.y) {
         return seen;
     }
-    if holds_height(ring, i, p.y) {
-        return next(cast_at(ring, i, p), seen);
+    match cast_at(ring, i, p) {
+        RaycastResult::On => None,
+        RaycastResult::Inside => Some(!inside),
+        RaycastResult::Neither => seen,
     }
-    seen
 }
 
 // The ring test of the first n segments, by scan. For the crates above, which have checked the ring and the point.
@@ -66,34 +49,24 @@ pub fn scan_in(ring: &[i32], n: usize, p: Point, edge: bool) -> Answer
     requires { n * 2 + 2 ≤ length ring.now }
     ensures { result ≡ said (scan_of (wide ring.now) n p edge) }
 {
-    let mut seen = Seen {
-        on: false,
-        inside: false,
-    };
-    let mut i: usize = 0;
-    while i < n {
-        seen = step(ring, i, p, seen);
-        if seen.on {
-            return Answer::of(edge);
+    let mut inside = false;
+    for i in 0..n {
+        match step(ring, i, p, Some(inside)) {
+            Some(now) => inside = now,
+            None => return Ok(edge),
         }
-        i += 1;
     }
-    Answer::of(seen.inside)
+    Ok(inside)
 }
 
 // The ring test by scan, of one ring and any point.
 pub fn scan_test(coords: &[i32], points: usize, p: Point, edge: bool) -> Answer
     ensures { result ≡ scan_tested coords.now points p edge }
 {
-    let checked = check_ring(coords, points);
-    match checked {
-        Checked::Faulty(why) => Answer::Refused(why),
-        Checked::Sound => {
-            if is_finite(p.x) & is_finite(p.y) {
-                scan_in(coords, points - 1, p, edge)
-            } else {
-                Answer::No
-            }
-        }
+    check_ring(coords, points)?;
+    if is_finite(p.x) & is_finite(p.y) {
+        scan_in(coords, points - 1, p, edge)
+    } else {
+        Ok(false)
     }
 }

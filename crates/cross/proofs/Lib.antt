@@ -1,5 +1,3 @@
-pub mod Signs
-pub mod Gaps
 pub mod Told
 pub mod Ends
 pub mod Unique

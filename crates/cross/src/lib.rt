@@ -5,8 +5,9 @@ ghost use Rattle.std.specs.Prelude.{◌≡◌, ◌^◌, ◌<◌, ◌-ℤ◌, ◌
 ghost use Rattle.cross.specs.Cross.{cross, sign_of};
 ghost use Rattle.cross.specs.Inner.Signed.{value_of};
 
-// The sign of a whole number: below zero, zero, above zero.
-#[derive(Clone, Copy)]
+// The sign of a whole number: below zero, zero, above zero. It stays an enum of its own beside std's `Ordering`, whose cases
+// name another thing, less and greater of two values; docs/PROMISES.md names the three signs.
+#[derive(Clone, Copy, Debug, PartialEq, Eq)]
 pub enum Sign {
     Below,
     Zero,
@@ -24,17 +25,10 @@ struct Signed {
 fn gap(a: i32, b: i32) -> Signed
     ensures { (value_of result ≡ b -ℤ a) × (result.size < 2 ^ 32) }
 {
-    let d = (b as i64) - (a as i64);
-    if d < 0 {
-        Signed {
-            below: true,
-            size: (0 - d) as u64,
-        }
-    } else {
-        Signed {
-            below: false,
-            size: d as u64,
-        }
+    let d = i64::from(b) - i64::from(a);
+    Signed {
+        below: d < 0,
+        size: d.unsigned_abs(),
     }
 }
 
@@ -73,6 +67,7 @@ fn compared(f: Signed, g: Signed) -> Sign
 }
 
 // The sign of (bx-ax)(py-ay) - (by-ay)(px-ax), for any ends and any place.
+#[tactic(auto, unfolding(crate::specs::Cross::cross))]
 pub fn cross_sign(ax: i32, ay: i32, bx: i32, by: i32, px: i32, py: i32) -> Sign
     ensures { result ≡ sign_of (cross ax ay bx by px py) }
 {

@@ -7,7 +7,7 @@ use lib.ListN.{length, take, replicate}
 use lib.Seq.{take-append_seam}
 use lib.IntN.{ℤ}
 use lib.Ieee.{Float}
-use Rattle.room.specs.Room.{pad}
+use Rattle.room.specs.Room.{padded, pad}
 use Rattle.rings.specs.Ring.{wide, segments}
 use Rattle.rings.specs.Checks.{ring_checked}
 use Rattle.stripes_count.specs.Count.{stripe_count}
@@ -24,7 +24,7 @@ use Rattle.demand_3.specs.Demand3.{StripesOf, BuiltIndex}
 
 -- the used part of a room
 pad_used : (n : ℕ) (xs : List ℕ) (k : ℕ) → length xs ≡ k → take k (pad n xs) ≡ xs
-unfolding pad
+unfolding padded
 pad_used n xs k e = rw (← e) (take-append_seam xs (replicate (n - length xs) 0))
 
 module _ (ring : ℕ → Float) (n : ℕ) (stripes list : List ℕ) (least height : Float) (stats : StripesStats) (s l : List ℕ)

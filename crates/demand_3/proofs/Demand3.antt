@@ -1,4 +1,5 @@
 -- Demand 3, proved: each field by the law that has it. Assumes nothing.
+use Rattle.std.specs.Prelude.{Ok, Err}
 use mathlib.Core.Path.{◌≡◌, refl, sym, ap, ◌∙◌}
 use mathlib.Core.Bool.{Bool, true}
 use mathlib.Core.List.{List, ◌++◌}
@@ -10,15 +11,13 @@ use lib.Ieee.Scale.{finite}
 use Rattle.answers.specs.declared.Refusal.TheVariants.{NoRoom}
 use Rattle.boxes.specs.declared.Point.{Point}
 use Rattle.room.specs.Numbers.{count}
-use Rattle.rings.specs.declared.Checked.TheVariants.{Sound}
-use Rattle.rings.specs.declared.Listed.TheVariants.{Count, Unlisted}
+use Rattle.room.specs.Room.{padded}
 use Rattle.rings.specs.Ring.{wide, segments, meeting}
 use Rattle.rings.specs.I32s.{I32s}
 use Rattle.rings.specs.Checks.{ring_checked}
 use Rattle.rings.specs.Listing.{scanned}
 use Rattle.cast_test.specs.Test.{scan_test, scan_tested_by, scan_tested}
 use Rattle.stripes_build.specs.declared.StripesStats.{StripesStats}
-use Rattle.stripes_find.specs.declared.StripesListed.TheVariants.{StripesFound, StripesUnlisted}
 use Rattle.stripes_find.specs.Listing.{stripes_listed}
 use Rattle.stripes_test.specs.Test.{stripes_tested}
 use Rattle.stripes_agree.proofs.Demand.{built_sound}
@@ -26,7 +25,6 @@ use Rattle.stripes_agree.proofs.Listed.{demand_3 as stripes-demand}
 use Rattle.stripes_agree.proofs.AsScan.{tests_as_scan}
 use Rattle.tree.proofs.Searchable.{stored}
 use Rattle.tree.proofs.Demand.{tree_found, tree_lists}
-use Rattle.tree_find.specs.declared.TreeListed.TheVariants.{TreeFound, TreeUnlisted}
 use Rattle.tree_find.specs.Find.{tree_listed, tree_tested}
 use Rattle.tree_find.proofs.Demand.{lists_all}
 use Rattle.tree_build.proofs.Demand.{builds, built_is, used, tests_built_as_scan}
@@ -53,16 +51,16 @@ use Rattle.demand_3.proofs.Entries.{stats_entries, row_entries}
 use Rattle.demand_3.proofs.Gets.{stripes_got, record_got, indexes_got}
 
 -- of a ring that passed its checks the scan's test is what the scan's call answers
-scan_answers : (ring : List ℤ) (points : ℕ) → ring_checked ring points ≡ Sound → (p : Point) (edge : Bool) → scan_test (wide ring) points p edge ≡ scan_tested ring points p edge
+scan_answers : (ring : List ℤ) (points : ℕ) → ring_checked ring points ≡ Ok tt → (p : Point) (edge : Bool) → scan_test (wide ring) points p edge ≡ scan_tested ring points p edge
 unfolding scan_tested_by
 scan_answers ring points sound p edge = rw sound
 
 module _ (ring : List ℤ) (points : ℕ) where
-  scan : ring_checked ring points ≡ Sound → (y : Float) → finite y ≡ true → (room : List ℕ)
-      → scanned ring points y room ≡ listing Count (Unlisted NoRoom) (meeting (wide ring) points y) room
+  scan : ring_checked ring points ≡ Ok tt → (y : Float) → finite y ≡ true → (room : List ℕ)
+      → scanned ring points y room ≡ listing Ok (Err NoRoom) (meeting (wide ring) points y) room
   scan sound y f room = scan_lists ring points y sound room f ∙ by_scan_lem (meeting (wide ring) points y) room
 
-  same : ring_checked ring points ≡ Sound → (y : Float) (i : ℕ) → count i (in_node_order (wide ring) points y) ≡ count i (meeting (wide ring) points y)
+  same : ring_checked ring points ≡ Ok tt → (y : Float) (i : ℕ) → count i (in_node_order (wide ring) points y) ≡ count i (meeting (wide ring) points y)
   same sound y i =
       let few = (stored ring points).few sound in
       let plain = (stored ring points).plain sound in
@@ -71,7 +69,7 @@ module _ (ring : List ℤ) (points : ℕ) where
   module _ (nums : I32s ring) (least height : Float) (stats : StripesStats) (s l : List ℕ) where
     stripes_list : StripesOf ring points least height stats s l → (y : Float) → finite y ≡ true → (room : List ℕ)
         → stripes_listed ring points least height (take (stats.stripes * 2) s) (take stats.entries l) y room
-        ≡ listing StripesFound (StripesUnlisted NoRoom) (meeting (wide ring) points y) room
+        ≡ listing Ok (Err NoRoom) (meeting (wide ring) points y) room
     stripes_list (threshold, stripes, list, built) y f room =
         stripes-demand ring points threshold nums stripes list least height stats s l built y room f ∙ by_stripes_lem (meeting (wide ring) points y) room
 
@@ -83,7 +81,7 @@ module _ (ring : List ℤ) (points : ℕ) where
 
   module _ (n : ℕ) (b : List ℕ) where
     tree_list_lem : TreeOf ring points n b → (y : Float) → finite y ≡ true → (room : List ℕ)
-        → tree_listed ring points (take n b) y room ≡ listing TreeFound (TreeUnlisted NoRoom) (in_node_order (wide ring) points y) room
+        → tree_listed ring points (take n b) y room ≡ listing Ok (Err NoRoom) (in_node_order (wide ring) points y) room
     tree_list_lem (threshold, bytes, work, w, built) y f room =
         ap (λ (xs : List ℕ). tree_listed ring points xs y room) (used (ring_checked ring points) (wide ring) points threshold (stored ring points) bytes work n b w built)
         ∙ lists_all (ring_checked ring points) (wide ring) points (stored ring points) (built_is (ring_checked ring points) (wide ring) points bytes work n b w threshold built).sound y room f
@@ -94,14 +92,14 @@ module _ (ring : List ℤ) (points : ℕ) where
         tests_built_as_scan (ring_checked ring points) (wide ring) points threshold (stored ring points) bytes work n b w built p edge
         ∙ scan_answers ring points (built_is (ring_checked ring points) (wide ring) points bytes work n b w threshold built).sound p edge
 
-padded : (n : ℕ) (xs : List ℤ) → pad_z n xs ≡ xs ++ replicate (n - length xs) (pos 0)
-unfolding pad_z
-padded n xs = refl
+pad_parts : (n : ℕ) (xs : List ℤ) → pad_z n xs ≡ xs ++ replicate (n - length xs) (pos 0)
+unfolding padded
+pad_parts n xs = refl
 
 made : (outline : Outline) (sizes : List ℕ) (coords room : List ℤ) → RecordOf outline sizes coords room → (behind : List ℤ) × (room ≡ boxes_of sizes coords ++ behind)
 made outline sizes coords room (boxes, n, e) = (
   replicate (length boxes - length (boxes_of sizes coords)) (pos 0),
-  (made_record outline.scale sizes coords boxes room n e).2 ∙ padded (length boxes) (boxes_of sizes coords),
+  (made_record outline.scale sizes coords boxes room n e).2 ∙ pad_parts (length boxes) (boxes_of sizes coords),
 )
 
 own : (sizes : List ℕ) (coords : List ℤ) (options : BuildOptions) (t : List ℕ) (sp : List Float) (s l b : List ℕ)

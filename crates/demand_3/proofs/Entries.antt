@@ -1,5 +1,6 @@
 -- "Entries in all equals the sum, over segments, of stripes crossed": of the statistics that building a ring's stripes tells, and of those that a row of
 -- a built table tells. Assumes nothing.
+use Rattle.std.specs.Prelude.{Ok, Some}
 use mathlib.Core.Path.{◌≡◌, refl, sym, ap, ◌∙◌}
 use mathlib.Core.Bool.{Bool, true, false}
 use mathlib.Core.List.{List}
@@ -14,14 +15,11 @@ use Rattle.stripes_index.specs.Index.{least_y, height_y}
 use Rattle.stripes_index.specs.Inner.States.{sum_to}
 use Rattle.stripes_index.proofs.Entries.{entries_sum}
 use Rattle.stripes_build.specs.declared.StripesStats.{StripesStats}
-use Rattle.stripes_build.specs.declared.StripesBuilt.TheVariants.{Striped}
 use Rattle.stripes_build.specs.Build.{stats_of, stripes_built}
 use Rattle.stripes_build.proofs.Building.{Indexed as Filled, built_is}
 use Rattle.outline_check.specs.Outline.{rings, size_at, ring_of}
 use Rattle.outline_index.specs.declared.BuildOptions.{BuildOptions}
 use Rattle.outline_index.specs.Parts.{has_stripes}
-use Rattle.outline_build.specs.declared.Built.TheVariants.{Indexed}
-use Rattle.outline_build.specs.declared.YStripes.TheVariants.{SomeStripes}
 use Rattle.outline_build.specs.declared.RingBuildStats.{RingBuildStats}
 use Rattle.outline_build.specs.Indexes.{indexes_built}
 use Rattle.outline_build.specs.Statistics.{told_by, stats_at, ring_stats}
@@ -34,7 +32,7 @@ own_entries ring n few =
     entries_sum ring (least_y ring n) (height_y ring n) n (stripe_count ring n) (omega (arith, some_stripes ring n)) (omega arith)
 
 pub stats_entries : (ring : List ℤ) (points threshold : ℕ) (stripes list : List ℕ) (least height : Float) (stats : StripesStats) (s l : List ℕ)
-    → stripes_built ring points threshold stripes list ≡ (Striped least height stats, s, l)
+    → stripes_built ring points threshold stripes list ≡ (Ok (Some (record { least = least; height = height; stats = stats })), s, l)
     → stats.entries ≡ sum_to (stripes_crossed (wide ring) (segments points)) (segments points)
 stats_entries ring points threshold stripes list least height stats s l built =
     let n = segments points in
@@ -48,8 +46,8 @@ told_stripes_lem options ring points = refl
 
 module _ (sizes : List ℕ) (coords : List ℤ) (options : BuildOptions) (table : List ℕ) (spans : List Float) (stripes list bytes work : List ℕ)
     (count : ℕ) (t : List ℕ) (sp : List Float) (s l b w : List ℕ)
-    (built : indexes_built sizes coords options table spans stripes list bytes work ≡ (Indexed count, t, sp, s, l, b, w)) (k : ℕ) (below : k < rings sizes) where
-  pub row_entries : (stats : StripesStats) → (stats_at t k).y_stripes ≡ SomeStripes stats
+    (built : indexes_built sizes coords options table spans stripes list bytes work ≡ (Ok count, t, sp, s, l, b, w)) (k : ℕ) (below : k < rings sizes) where
+  pub row_entries : (stats : StripesStats) → (stats_at t k).y_stripes ≡ Some stats
       → stats.entries ≡ sum_to (stripes_crossed (wide (ring_of sizes coords k)) (segments (size_at sizes k))) (segments (size_at sizes k))
   row_entries stats told =
       go (has_stripes options n) refl
@@ -61,7 +59,7 @@ module _ (sizes : List ℕ) (coords : List ℤ) (options : BuildOptions) (table 
       n : ℕ
       n = segments (size_at sizes k)
 
-      go : (h : Bool) → has_stripes options n ≡ h → told_by h (stats_of ring n) ≡ SomeStripes stats → stats.entries ≡ sum_to (stripes_crossed ring n) n
+      go : (h : Bool) → has_stripes options n ≡ h → told_by h (stats_of ring n) ≡ Some stats → stats.entries ≡ sum_to (stripes_crossed ring n) n
       go true e u =
           let has = left_stripes sizes coords options table spans stripes list bytes work count t sp s l b w built k below ∙ e in
           let own = (left_own sizes coords options table spans stripes list bytes work count t sp s l b w built k below).stripes has in

@@ -1,5 +1,6 @@
 -- Room as large as the rules call for is as large as building asks: what each ring calls for, summed over the rings, is how long the parts of all rings are.
 -- Assumes nothing.
+use Rattle.std.specs.Prelude.{Ok, Some}
 use mathlib.Core.Path.{◌≡◌, refl, ap₂}
 use mathlib.Core.Bool.{Bool, true, false, not, cond, ◌&&◌, ◌||◌}
 use mathlib.Core.List.{List, []}
@@ -10,7 +11,6 @@ use lib.ListN.{length}
 use lib.IntN.{ℤ}
 use lib.Ieee.{Float}
 use borrow.Author.Tests.{le-leb}
-use Rattle.rings.specs.declared.Checked.TheVariants.{Sound}
 use Rattle.rings.specs.Ring.{wide, segments}
 use Rattle.rings.specs.Checks.{ring_checked}
 use Rattle.stripes_count.specs.Count.{stripe_count}
@@ -19,7 +19,6 @@ use Rattle.stripes_index.specs.Inner.States.{sum_to}
 use Rattle.stripes_index.proofs.Pairs.{pairs_length}
 use Rattle.stripes_index.proofs.Starts.{sum_ext}
 use Rattle.stripes_build.specs.declared.StripesStats.{StripesStats}
-use Rattle.stripes_build.specs.declared.StripesBuilt.TheVariants.{Striped}
 use Rattle.stripes_build.specs.Build.{crosses_in, stripes_built}
 use Rattle.stripes_build.proofs.Enough.{builds as builds-stripes}
 use Rattle.tree.specs.Tree.{work_numbers}
@@ -27,7 +26,6 @@ use Rattle.tree_build.specs.Build.{tree_bytes}
 use Rattle.outline_check.specs.declared.Outline.{Outline}
 use Rattle.outline_check.specs.Outline.{rings, size_at, ring_of}
 use Rattle.outline_check.specs.Rules.{shape_checked, outline_checked}
-use Rattle.outline_record.specs.declared.Made.TheVariants.{Rings}
 use Rattle.outline_record.specs.Record.{boxes_of}
 use Rattle.outline_record.specs.Made.{pad_z, boxes_made}
 use Rattle.outline_record.proofs.Pad.{recorded_fits}
@@ -35,7 +33,6 @@ use Rattle.outline_index.specs.declared.BuildOptions.{BuildOptions}
 use Rattle.outline_index.specs.Pools.{in_turn, every}
 use Rattle.outline_index.specs.Parts.{has_stripes, has_tree, ring_stripes, stripes_part, list_part, bytes_part, span_part, few_stripes, enough_work}
 use Rattle.outline_index.proofs.Pools.{turn_like, turn_more}
-use Rattle.outline_build.specs.declared.Built.TheVariants.{Indexed}
 use Rattle.outline_build.specs.Indexes.{row_at, calls, indexes_built}
 use Rattle.outline_build.proofs.Roomy.{Enough}
 use Rattle.outline_build.proofs.Enough.{builds as builds-all}
@@ -45,10 +42,10 @@ use Rattle.demand_3.proofs.Entries.{own_entries}
 
 -- ---- one ring
 module _ (ring : List ℤ) (points threshold : ℕ) (stripes list : List ℕ) where
-  pub stripes_got : ring_checked ring points ≡ Sound → threshold ≤ segments points → stripe_count (wide ring) (segments points) ≤ 65536
+  pub stripes_got : ring_checked ring points ≡ Ok tt → threshold ≤ segments points → stripe_count (wide ring) (segments points) ≤ 65536
       → stripe_count (wide ring) (segments points) * 2 ≤ length stripes → sum_to (stripes_crossed (wide ring) (segments points)) (segments points) ≤ length list
       → (least : Float) × (height : Float) × (stats : StripesStats) × (s : List ℕ) × (l : List ℕ)
-      × (stripes_built ring points threshold stripes list ≡ (Striped least height stats, s, l))
+      × (stripes_built ring points threshold stripes list ≡ (Ok (Some (record { least = least; height = height; stats = stats })), s, l))
   stripes_got sound reached few enough roomy = (
     _,
     _,
@@ -58,9 +55,9 @@ module _ (ring : List ℤ) (points threshold : ℕ) (stripes list : List ℕ) wh
     builds-stripes ring points threshold stripes list sound reached few enough (omega (arith, own_entries (wide ring) (segments points) few)),
   )
 
-pub record_got : (outline : Outline) (sizes : List ℕ) (coords boxes : List ℤ) → outline_checked outline.scale sizes coords ≡ Sound
+pub record_got : (outline : Outline) (sizes : List ℕ) (coords boxes : List ℤ) → outline_checked outline.scale sizes coords ≡ Ok tt
     → 4 * rings sizes ≤ length boxes
-    → (room : List ℤ) × (boxes_made outline.scale sizes coords boxes ≡ (Rings (rings sizes), room))
+    → (room : List ℤ) × (boxes_made outline.scale sizes coords boxes ≡ (Ok (rings sizes), room))
 unfolding boxes_made
 record_got outline sizes coords boxes sound roomy = (pad_z (length boxes) (boxes_of sizes coords), rw sound (recorded_fits sizes coords boxes roomy))
 
@@ -158,7 +155,7 @@ module _ (sizes : List ℕ) (coords : List ℤ) (options : BuildOptions) (table 
         called = all_hold (calls options sizes coords work) m (λ j l. called options (ring j) (size j) work (room.few j l) (room.working j l));
       }
 
-  pub indexes_got : shape_checked sizes coords ≡ Sound
+  pub indexes_got : shape_checked sizes coords ≡ Ok tt
       → (t : List ℕ) × (sp : List Float) × (s : List ℕ) × (l : List ℕ) × (b : List ℕ) × (w : List ℕ)
-      × (indexes_built sizes coords options table spans stripes list bytes work ≡ (Indexed (rings sizes), t, sp, s, l, b, w))
+      × (indexes_built sizes coords options table spans stripes list bytes work ≡ (Ok (rings sizes), t, sp, s, l, b, w))
   indexes_got sound = (_, _, _, _, _, _, builds-all options sizes coords table spans stripes list bytes work sound enough)

@@ -1,4 +1,5 @@
 -- The numbers at which a test holds rise, and what the three listing calls do with their numbers is one and the same. Assumes nothing.
+use Rattle.std.specs.Prelude.{Ok, Err}
 use mathlib.Core.Path.{◌≡◌, refl}
 use mathlib.Core.Bool.{Bool, true, false, cond}
 use mathlib.Core.List.{List, ◌∷◌}
@@ -11,13 +12,10 @@ use Rattle.answers.specs.declared.Refusal.TheVariants.{NoRoom}
 use Rattle.room.specs.Numbers.{cons_if, keep, up_to}
 use Rattle.room.specs.Room.{pad, room_of}
 use Rattle.rings.specs.Ring.{meeting}
-use Rattle.rings.specs.declared.Listed.TheVariants.{Count, Unlisted}
 use Rattle.rings.specs.Listing.{Outcome, listed_in}
-use Rattle.stripes_find.specs.declared.StripesListed.TheVariants.{StripesFound, StripesUnlisted}
 use Rattle.stripes_find.specs.Search.{complete}
 use Rattle.stripes_find.specs.Listing.{poured}
 use Rattle.tree.specs.Search.{ends}
-use Rattle.tree_find.specs.declared.TreeListed.TheVariants.{TreeFound, TreeUnlisted}
 use Rattle.tree_find.specs.Find.{answered}
 use Rattle.demand_3.specs.Words.{Rises, listing}
 
@@ -51,20 +49,20 @@ meeting_rises ring points y = keep_rises _ _ _
 
 -- ---- listing
 module _ (numbers room : List ℕ) where
-  pub by_scan_lem : listed_in numbers room ≡ listing Count (Unlisted NoRoom) numbers room
+  pub by_scan_lem : listed_in numbers room ≡ listing Ok (Err NoRoom) numbers room
   unfolding listed_in room_of
   by_scan_lem = go (leb (length numbers) (length room))
     where
       go : (b : Bool)
-          → ◌≡◌ {A = Outcome} (cond b (Count (length numbers)) (Unlisted NoRoom), cond b (pad (length room) numbers) (replicate (length room) 0))
-          (cond b (Count (length numbers), pad (length room) numbers) (Unlisted NoRoom, replicate (length room) 0))
+          → ◌≡◌ {A = Outcome} (cond b (Ok (length numbers)) (Err NoRoom), cond b (pad (length room) numbers) (replicate (length room) 0))
+          (cond b (Ok (length numbers), pad (length room) numbers) (Err NoRoom, replicate (length room) 0))
       go true = refl
       go false = refl
 
-  pub by_stripes_lem : poured (record { found = numbers; ending = complete }) room ≡ listing StripesFound (StripesUnlisted NoRoom) numbers room
+  pub by_stripes_lem : poured (record { found = numbers; ending = complete }) room ≡ listing Ok (Err NoRoom) numbers room
   unfolding poured
   by_stripes_lem = refl
 
-  pub by_tree_lem : (p : ℕ) → answered (length room) (numbers, ends p) ≡ listing TreeFound (TreeUnlisted NoRoom) numbers room
+  pub by_tree_lem : (p : ℕ) → answered (length room) (numbers, ends p) ≡ listing Ok (Err NoRoom) numbers room
   unfolding answered
   by_tree_lem p = refl

@@ -3,13 +3,11 @@
 -- that the calls promise. `proofs/Demand3.antt` proves them all.
 --
 -- Nothing is defined by an index: `meeting` and `plain_inside` know only segments. `wide ring` is the ring's numbers as floats. `I32s` says that numbers are i32; any that are lent are (`lent_numbers` in crate `outline_plain` shows it).
-use Rattle.std.specs.Prelude.{◌≡◌, Bool, true, List, [], ◌++◌, ℕ, ◌*◌, ◌≤◌, ◌<◌, length, take, replicate, ℤ, Float}
+use Rattle.std.specs.Prelude.{Ok, Err, Some, ◌≡◌, Bool, true, List, [], ◌++◌, ℕ, ◌*◌, ◌≤◌, ◌<◌, length, take, replicate, ℤ, Float}
 use Rattle.std.specs.Float.Ieee.Scale.{finite}
 use Rattle.answers.specs.declared.Refusal.TheVariants.{NoRoom}
 use Rattle.room.specs.Numbers.{bit, count}
 use Rattle.boxes.specs.declared.Point.{Point}
-use Rattle.rings.specs.declared.Checked.TheVariants.{Sound}
-use Rattle.rings.specs.declared.Listed.TheVariants.{Count, Unlisted}
 use Rattle.rings.specs.Ring.{wide, side_at, segments, holds_height, meeting}
 use Rattle.rings.specs.I32s.{I32s}
 use Rattle.rings.specs.Checks.{ring_checked}
@@ -18,20 +16,15 @@ use Rattle.cast_test.specs.Test.{scan_tested}
 use Rattle.stripes_count.specs.Count.{stripe_count}
 use Rattle.stripes_index.specs.Inner.States.{sum_to}
 use Rattle.stripes_build.specs.declared.StripesStats.{StripesStats}
-use Rattle.stripes_build.specs.declared.StripesBuilt.TheVariants.{Striped}
 use Rattle.stripes_build.specs.Build.{stripes_built}
-use Rattle.stripes_find.specs.declared.StripesListed.TheVariants.{StripesFound, StripesUnlisted}
 use Rattle.stripes_find.specs.Listing.{stripes_listed}
 use Rattle.stripes_test.specs.Test.{stripes_tested}
 use Rattle.tree.specs.Tree.{tree_of, packed, work_numbers}
-use Rattle.tree_build.specs.declared.TreeBuilt.TheVariants.{Packed}
 use Rattle.tree_build.specs.Build.{tree_built}
-use Rattle.tree_find.specs.declared.TreeListed.TheVariants.{TreeFound, TreeUnlisted}
 use Rattle.tree_find.specs.Find.{tree_listed, tree_tested}
 use Rattle.outline_check.specs.declared.Outline.{Outline}
 use Rattle.outline_check.specs.Outline.{rings, size_at, ring_of}
 use Rattle.outline_check.specs.Rules.{shape_checked, outline_checked}
-use Rattle.outline_record.specs.declared.Made.TheVariants.{Rings}
 use Rattle.outline_record.specs.Record.{boxes_of}
 use Rattle.outline_record.specs.Made.{boxes_made}
 use Rattle.outline_ring.specs.RingIndex.{Indexes, lent, has_stripes, has_tree, least_of, height_of, stripes_of, list_of, bytes_of, stripes_lie, tree_lies}
@@ -40,8 +33,6 @@ use Rattle.outline_agree.specs.Plain.{plain_inside}
 use Rattle.outline_agree.specs.Own.{OwnIndexes}
 use Rattle.outline_index.specs.declared.BuildOptions.{BuildOptions}
 use Rattle.outline_index.specs.Parts.{has_stripes as getsStripes, has_tree as getsTree}
-use Rattle.outline_build.specs.declared.Built.TheVariants.{Indexed}
-use Rattle.outline_build.specs.declared.YStripes.TheVariants.{SomeStripes}
 use Rattle.outline_build.specs.Indexes.{indexes_built}
 use Rattle.outline_build.specs.Statistics.{stats_at}
 use Rattle.demand_3.specs.Words.{Rises, listing, in_node_order, stripes_crossed, stripes_called, entries_called, bytes_called}
@@ -49,12 +40,12 @@ use Rattle.demand_3.specs.Words.{Rises, listing, in_node_order, stripes_crossed,
 -- `build_stripes` made this index of the ring: least y, height and statistics, and what stands in the rooms s and l. It was lent some rooms, and any threshold.
 abbrev pub StripesOf : List ℤ → ℕ → Float → Float → StripesStats → List ℕ → List ℕ → Type 0
 StripesOf ring points least height stats s l =
-    (threshold : ℕ) × (stripes : List ℕ) × (list : List ℕ) × (stripes_built ring points threshold stripes list ≡ (Striped least height stats, s, l))
+    (threshold : ℕ) × (stripes : List ℕ) × (list : List ℕ) × (stripes_built ring points threshold stripes list ≡ (Ok (Some (record { least = least; height = height; stats = stats })), s, l))
 
 -- `build_tree` made this tree of the ring: the first n bytes of what stands in the room b
 abbrev pub TreeOf : List ℤ → ℕ → ℕ → List ℕ → Type 0
 TreeOf ring points n b =
-    (threshold : ℕ) × (bytes : List ℕ) × (work : List ℕ) × (w : List ℕ) × (tree_built ring points threshold bytes work ≡ (Packed n, b, w))
+    (threshold : ℕ) × (bytes : List ℕ) × (work : List ℕ) × (w : List ℕ) × (tree_built ring points threshold bytes work ≡ (Ok (Some n), b, w))
 
 -- What is lent as ring k's index was built from the ring, each part lent as it is used, all of it: stripes, a tree, both or none.
 pub record BuiltIndex (x : Indexes) (k : ℕ) (ring : List ℤ) (points : ℕ) : Type 0 where
@@ -68,13 +59,13 @@ pub record BuiltIndex (x : Indexes) (k : ℕ) (ring : List ℤ) (points : ℕ) :
 -- `make_boxes` made this record of the outline
 abbrev pub RecordOf : Outline → List ℕ → List ℤ → List ℤ → Type 0
 RecordOf outline sizes coords record-room =
-    (boxes : List ℤ) × (n : ℕ) × (boxes_made outline.scale sizes coords boxes ≡ (Rings n, record-room))
+    (boxes : List ℤ) × (n : ℕ) × (boxes_made outline.scale sizes coords boxes ≡ (Ok n, record-room))
 
 -- `build_indexes` left these rooms, by any options
 abbrev pub IndexesOf : List ℕ → List ℤ → BuildOptions → List ℕ → List Float → List ℕ → List ℕ → List ℕ → Type 0
 IndexesOf sizes coords options t sp s l b =
     (table : List ℕ) × (spans : List Float) × (stripes : List ℕ) × (list : List ℕ) × (bytes : List ℕ) × (work : List ℕ) × (n : ℕ) × (w : List ℕ)
-    × (indexes_built sizes coords options table spans stripes list bytes work ≡ (Indexed n, t, sp, s, l, b, w))
+    × (indexes_built sizes coords options table spans stripes list bytes work ≡ (Ok n, t, sp, s, l, b, w))
 
 -- The rooms are as large as the rules call for, to index an outline by these options: ten numbers and two floats a ring; the stripes, lists and bytes of all
 -- rings; work room for the ring that calls for most of it; and no ring calls for more than 65,536 stripes. `sum_to f n` is f 0 + .. + f (n - 1).
@@ -97,17 +88,17 @@ pub record Demand3 : Type 0 where
   pub no_other : (ring : ℕ → Float) (points : ℕ) (y : Float) (i : ℕ) → segments points ≤ i → count i (meeting ring points y) ≡ 0
   pub by_rising_number : (ring : ℕ → Float) (points : ℕ) (y : Float) → Rises (meeting ring points y)
   -- ---- 2. the scan of a ring that passes its checks lists `meeting`, at every finite height
-  pub scan_lists : (ring : List ℤ) (points : ℕ) → ring_checked ring points ≡ Sound → (y : Float) → finite y ≡ true → (room : List ℕ)
-      → scanned ring points y room ≡ listing Count (Unlisted NoRoom) (meeting (wide ring) points y) room
+  pub scan_lists : (ring : List ℤ) (points : ℕ) → ring_checked ring points ≡ Ok tt → (y : Float) → finite y ≡ true → (room : List ℕ)
+      → scanned ring points y room ≡ listing Ok (Err NoRoom) (meeting (wide ring) points y) room
   -- ---- 3. so do the stripes that were built from the ring
   pub stripes_list : (ring : List ℤ) (points : ℕ) → I32s ring → (least height : Float) (stats : StripesStats) (s l : List ℕ)
       → StripesOf ring points least height stats s l → (y : Float) → finite y ≡ true → (room : List ℕ)
       → stripes_listed ring points least height (take (stats.stripes * 2) s) (take stats.entries l) y room
-      ≡ listing StripesFound (StripesUnlisted NoRoom) (meeting (wide ring) points y) room
+      ≡ listing Ok (Err NoRoom) (meeting (wide ring) points y) room
   -- ---- 4. the tree that was built from the ring lists them in node order, and that is each of them exactly once and no other
   pub tree_lists : (ring : List ℤ) (points n : ℕ) (b : List ℕ) → TreeOf ring points n b → (y : Float) → finite y ≡ true → (room : List ℕ)
-      → tree_listed ring points (take n b) y room ≡ listing TreeFound (TreeUnlisted NoRoom) (in_node_order (wide ring) points y) room
-  pub same_segments : (ring : List ℤ) (points : ℕ) → ring_checked ring points ≡ Sound → (y : Float) (i : ℕ)
+      → tree_listed ring points (take n b) y room ≡ listing Ok (Err NoRoom) (in_node_order (wide ring) points y) room
+  pub same_segments : (ring : List ℤ) (points : ℕ) → ring_checked ring points ≡ Ok tt → (y : Float) (i : ℕ)
       → count i (in_node_order (wide ring) points y) ≡ count i (meeting (wide ring) points y)
   -- ---- 5. the ring tests through them are the scan's, for every point and both edge rules
   pub stripes_test : (ring : List ℤ) (points : ℕ) → I32s ring → (least height : Float) (stats : StripesStats) (s l : List ℕ)
@@ -139,21 +130,21 @@ pub record Demand3 : Type 0 where
       → (p : Point) (edge : Bool) → inside_of outline sizes coords room (lent t sp s l b) p edge ≡ plain_inside outline sizes coords p edge
   -- ---- 8. None of this speaks of nothing. Every ring that passes its checks and reaches the threshold gets its stripes and its tree, where the room is as
   -- large as the rules call for, and every outline that passes the rules its record and its indexes, each ring those that are asked for.
-  pub gets_stripes : (ring : List ℤ) (points threshold : ℕ) (stripes list : List ℕ) → ring_checked ring points ≡ Sound → threshold ≤ segments points
+  pub gets_stripes : (ring : List ℤ) (points threshold : ℕ) (stripes list : List ℕ) → ring_checked ring points ≡ Ok tt → threshold ≤ segments points
       → stripe_count (wide ring) (segments points) ≤ 65536 → stripe_count (wide ring) (segments points) * 2 ≤ length stripes
       → sum_to (stripes_crossed (wide ring) (segments points)) (segments points) ≤ length list
       → (least : Float) × (height : Float) × (stats : StripesStats) × (s : List ℕ) × (l : List ℕ)
-      × (stripes_built ring points threshold stripes list ≡ (Striped least height stats, s, l))
-  pub gets_tree : (ring : List ℤ) (points threshold : ℕ) (bytes work : List ℕ) → ring_checked ring points ≡ Sound → threshold ≤ segments points
+      × (stripes_built ring points threshold stripes list ≡ (Ok (Some (record { least = least; height = height; stats = stats })), s, l))
+  pub gets_tree : (ring : List ℤ) (points threshold : ℕ) (bytes work : List ℕ) → ring_checked ring points ≡ Ok tt → threshold ≤ segments points
       → length (packed (tree_of (wide ring) points)) ≤ length bytes → work_numbers (wide ring) points ≤ length work
-      → (n : ℕ) × (b : List ℕ) × (w : List ℕ) × (tree_built ring points threshold bytes work ≡ (Packed n, b, w))
-  pub gets_record : (outline : Outline) (sizes : List ℕ) (coords boxes : List ℤ) → outline_checked outline.scale sizes coords ≡ Sound
+      → (n : ℕ) × (b : List ℕ) × (w : List ℕ) × (tree_built ring points threshold bytes work ≡ (Ok (Some n), b, w))
+  pub gets_record : (outline : Outline) (sizes : List ℕ) (coords boxes : List ℤ) → outline_checked outline.scale sizes coords ≡ Ok tt
       → 4 * rings sizes ≤ length boxes
-      → (room : List ℤ) × (boxes_made outline.scale sizes coords boxes ≡ (Rings (rings sizes), room))
+      → (room : List ℤ) × (boxes_made outline.scale sizes coords boxes ≡ (Ok (rings sizes), room))
   pub gets_indexes : (sizes : List ℕ) (coords : List ℤ) (options : BuildOptions) (table : List ℕ) (spans : List Float) (stripes list bytes work : List ℕ)
-      → shape_checked sizes coords ≡ Sound → RoomFor sizes coords options table spans stripes list bytes work
+      → shape_checked sizes coords ≡ Ok tt → RoomFor sizes coords options table spans stripes list bytes work
       → (t : List ℕ) × (sp : List Float) × (s : List ℕ) × (l : List ℕ) × (b : List ℕ) × (w : List ℕ)
-      × (indexes_built sizes coords options table spans stripes list bytes work ≡ (Indexed (rings sizes), t, sp, s, l, b, w))
+      × (indexes_built sizes coords options table spans stripes list bytes work ≡ (Ok (rings sizes), t, sp, s, l, b, w))
   pub each_ring_of : (sizes : List ℕ) (coords : List ℤ) (options : BuildOptions) (t : List ℕ) (sp : List Float) (s l b : List ℕ)
       → IndexesOf sizes coords options t sp s l b → (k : ℕ) → k < rings sizes
       → (has_stripes t k ≡ getsStripes options (segments (size_at sizes k))) × (has_tree t k ≡ getsTree options (segments (size_at sizes k)))
@@ -162,5 +153,5 @@ pub record Demand3 : Type 0 where
       → stats.entries ≡ sum_to (stripes_crossed (wide ring) (segments points)) (segments points)
   pub built_entries : (sizes : List ℕ) (coords : List ℤ) (options : BuildOptions) (t : List ℕ) (sp : List Float) (s l b : List ℕ)
       → IndexesOf sizes coords options t sp s l b → (k : ℕ) → k < rings sizes → (stats : StripesStats)
-      → (stats_at t k).y_stripes ≡ SomeStripes stats
+      → (stats_at t k).y_stripes ≡ Some stats
       → stats.entries ≡ sum_to (stripes_crossed (wide (ring_of sizes coords k)) (segments (size_at sizes k))) (segments (size_at sizes k))

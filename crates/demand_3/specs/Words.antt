@@ -14,7 +14,7 @@ abbrev pub Rises : List ℕ → Type 0
 Rises xs = (j : ℕ) → suc j < length xs → get_or xs j 0 < get_or xs (suc j) 0
 
 -- What a listing call that has these numbers to list answers, and what it leaves in the room: how many there are, the numbers and zeros behind them; or,
--- where they outnumber the room, refusal 8 and zeros. The three listing calls differ only in how they say "so many" and "8".
+-- where they outnumber the room, refusal 8 and zeros. All three listing calls say "so many" by `Ok` and "8" by `Err NoRoom`.
 abbrev pub listing : {Said : Type 0} → (ℕ → Said) → Said → List ℕ → List ℕ → Said × List ℕ
 listing many short numbers room =
     cond (leb (length numbers) (length room)) (many (length numbers), pad (length room) numbers) (short, replicate (length room) 0)

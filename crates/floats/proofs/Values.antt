@@ -1,49 +1,31 @@
--- The absolute value by comparisons with zero; and of two numbers, the lesser is at most each and the greater at least each, each is one of the two, and
+-- std's size and test of a float are this crate's; and of two numbers, the lesser is at most each and the greater at least each, each is one of the two, and
 -- what lies between the two lies between them. Assumes nothing.
 use mathlib.Core.Path.{◌≡◌, refl, sym, ap, ◌∙◌, subst}
-use Prim.Native.Nat.{ℕ, ◌+◌, ◌*◌, ◌≤◌, ◌<◌}
-use native.Mathlib.Omega.{arith}
 use mathlib.Core.Logic.{inl, inr}
-use mathlib.Core.Bool.{Bool, true, false, cond, not, ◌&&◌, ◌||◌, or-false, true≢false}
+use mathlib.Core.Bool.{Bool, true, false, cond, not, ◌&&◌, ◌||◌, or-false}
 use lib.Dec.{T}
-use borrow.Author.Tests.{ltb-true, ltb-false, eq-eqb, not-false}
-use lib.Ieee.{Float, nan, inf, fin, binary64, is_nan, up, down, neg, lt, le, eq, ne, fits}
+use borrow.Author.Tests.{not-false}
+use lib.Ieee.{Float, nan, inf, fin, is_nan, lt, le, eq, ne}
+use lib.Ieee.Scale.{finite}
+use Rattle.std.specs.Float.{float_is_finite, float_with_sign}
 use lib.Ieee.Bits.{is_true}
 use lib.Ieee.Fits.{and_i, and_l, and_r}
-use Rattle.floats.specs.Next.{zero_of}
 use Rattle.floats.specs.Values.{abs_of, lesser_of, greater_of}
 use Rattle.floats.proofs.Parts.{or_split, or_left, or_right}
-use Rattle.floats.proofs.Order.{zero_either, le_refl, le_trans, le_left, le_right, le_antisym, lt_le, lt_not_le, lt_is_not_le}
+use Rattle.floats.proofs.Order.{le_refl, le_trans, le_left, le_right, le_antisym, lt_le, lt_not_le, lt_is_not_le}
 
-pub abs_below : (x : Float) → lt x (zero_of false) ≡ true → neg x ≡ abs_of x
-unfolding lt neg abs_of
-abs_below nan h = refl
-abs_below (inf true) h = refl
-abs_below (inf false) h = absurd (true≢false (sym h))
-abs_below (fin true m e) h = refl
-abs_below (fin false m e) h = absurd (clash (m * up e) (down e) (ltb-true (m * up e * 1) (0 * 1 * down e) h))
-  where
-    clash : (a d : ℕ) → a * 1 < 0 * 1 * d → ⊥
-    clash a d h = omega arith
+-- std's words for the two
+pub finite_std : (x : Float) → float_is_finite x ≡ finite x
+unfolding float_is_finite
+finite_std nan = refl
+finite_std (inf s) = refl
+finite_std (fin s m e) = refl
 
-pub abs_zero : (x : Float) → T (fits binary64 x) → eq x (zero_of false) ≡ true → zero_of false ≡ abs_of x
-unfolding abs_of
-abs_zero x f h = let z = zero_either binary64 x f (subst T (sym h) tt) in rw z.1
-
-pub abs_above : (x : Float) → lt x (zero_of false) ≡ false → eq x (zero_of false) ≡ false → x ≡ abs_of x
-unfolding lt eq abs_of
-abs_above nan h k = refl
-abs_above (inf true) h k = absurd (true≢false h)
-abs_above (inf false) h k = refl
-abs_above (fin false m e) h k = refl
-abs_above (fin true m e) h k =
-    let a : m * up e * 1 + 0 * 1 * down e ≤ 0 = ltb-false 0 (m * up e * 1 + 0 * 1 * down e) h in
-    let b : m * up e * 1 ≡ 0 * 1 * down e = omega arith in
-    let c : m * up e * 1 ≡ 0 = omega arith in
-    absurd (true≢false (sym (both (eq-eqb (m * up e * 1) (0 * 1 * down e) b) (eq-eqb (m * up e * 1) 0 c)) ∙ k))
-  where
-    both : {x y : Bool} → x ≡ true → y ≡ true → (x && (false || y)) ≡ true
-    both h k = rw (h, k)
+pub abs_std : (x : Float) → float_with_sign false x ≡ abs_of x
+unfolding float_with_sign abs_of
+abs_std nan = refl
+abs_std (inf s) = refl
+abs_std (fin s m e) = refl
 
 -- ---- the lesser and the greater of two numbers
 equal_self : (x : Float) → is_nan x ≡ false → ne x x ≡ false

@@ -5,25 +5,7 @@ ghost use Rattle.std.specs.Prelude.{◌≡◌};
 ghost use Rattle.std.specs.Float.{binary64};
 ghost use Rattle.std.specs.Float.Ieee.Scale.{finite};
 ghost use Rattle.floats.specs.Next.{NextUp, next_up_of};
-ghost use Rattle.floats.specs.Inner.NextBits.{next_bits};
 ghost use Rattle.floats.specs.Values.{abs_of, lesser_of, greater_of};
-
-// One step up on the pattern n of a float that is no NaN. Patterns from +0's on count up to
-// +infinity's, which stays. Those behind -0's count down, and -0 goes where +0 goes.
-fn next_bits(n: u64) -> u64
-    ensures { result ≡ next_bits n }
-{
-    if n < 0x7ff0_0000_0000_0000 {
-        return n + 1;
-    }
-    if n == 0x7ff0_0000_0000_0000 {
-        return n;
-    }
-    if n == 0x8000_0000_0000_0000 {
-        return 1;
-    }
-    n - 1
-}
 
 // IEEE 754's nextUp: the least float above x. NaN and +infinity stay, both zeros go to the smallest
 // positive value, and -infinity goes to the least finite one.
@@ -31,34 +13,28 @@ pub fn next_up(x: f64) -> f64
     ensures meets { NextUp binary64 x result }
     ensures computed { result ≡ next_up_of x }
 {
-    if x != x {
-        return x;
-    }
-    f64::from_bits(next_bits(f64::to_bits(x)))
+    x.next_up()
 }
 
 // Neither a NaN nor an infinity: Rust's `f64::is_finite`.
+#[tactic(auto, using(crate::proofs::Values::finite_std))]
 pub fn is_finite(x: f64) -> bool
     ensures { result ≡ finite x }
 {
-    let top = 1.0 / 0.0;
-    (x > -top) & (x < top)
+    x.is_finite()
 }
 
 // The size of x: Rust's `f64::abs`.
+#[tactic(auto, using(crate::proofs::Values::abs_std))]
 pub fn abs(x: f64) -> f64
     ensures { result ≡ abs_of x }
 {
-    if x < 0.0 {
-        return -x;
-    }
-    if x == 0.0 {
-        return 0.0;
-    }
-    x
+    x.abs()
 }
 
-// Rust's `f64::min`.
+// Rust's `f64::min`. std's own leaves open which of two zeros it gives, and the promise here says the first, so this
+// stays a comparison.
+#[tactic(auto, unfolding(crate::specs::Values::lesser_of))]
 pub fn lesser(x: f64, y: f64) -> f64
     ensures { result ≡ lesser_of x y }
 {
@@ -68,7 +44,8 @@ pub fn lesser(x: f64, y: f64) -> f64
     x
 }
 
-// Rust's `f64::max`.
+// Rust's `f64::max`, likewise.
+#[tactic(auto, unfolding(crate::specs::Values::greater_of))]
 pub fn greater(x: f64, y: f64) -> f64
     ensures { result ≡ greater_of x y }
 {

@@ -1,7 +1,6 @@
 -- 01, "Ring test", by the whole-number test, on every segment of a ring: "Integer mode: .. without index".
 use Rattle.std.specs.Prelude.{ℕ, Bool, List, ℤ}
-use Rattle.answers.specs.declared.Answer.{Answer}
-use Rattle.answers.specs.Answers.{said}
+use Rattle.answers.specs.Answers.{Answer, said}
 use Rattle.rings.specs.Ring.{segment_at, segments, numbers}
 use Rattle.rings.specs.Checks.{ring_checked, when_sound}
 use Rattle.rings.specs.RingTest.{ring_test}

@@ -1,166 +1,124 @@
 // The fields of a line.
-ghost use Rattle.std.specs.Prelude.{◌+◌, ◌≤◌, ◌<◌, length};
+ghost use Rattle.std.specs.Prelude.{◌≤◌, length, IfSome};
 
-// A field that was read: what it says, the place past it, and whether all is well up to there.
+use wkb_fields::float_of;
+
+// The value of a hexadecimal digit. Rust's `to_digit` and `from_str_radix` take upper case too, and the latter a sign.
+fn digit(b: u8) -> Option<u8>
+    ensures { IfSome result (λ d. d ≤ 15) }
+{
+    match b {
+        b'0'..=b'9' => Some(b - b'0'),
+        b'a'..=b'f' => Some(b - b'a' + 10),
+        _ => None,
+    }
+}
+
+// The byte whose two digits a text begins with, and the text behind them.
+fn byte(text: &[u8]) -> Option<(u8, &[u8])> {
+    let [high, low, rest @ ..] = text else {
+        return None;
+    };
+    Some((digit(*high)? * 16 + digit(*low)?, rest))
+}
+
+// What is left of a line, behind the fields that were read: each field stands after a space.
 #[derive(Clone, Copy)]
-pub struct Field {
-    pub value: u64,
-    pub next: usize,
-    pub good: bool,
+pub struct Fields<'a> {
+    rest: &'a [u8],
 }
 
-// The first place from `at` on where a byte stands, or the text's end.
-fn find(text: &[u8], at: usize, byte: u8) -> usize
-    requires { at ≤ length text.now }
-    ensures { (at ≤ result) × (result ≤ length text.now) }
-{
-    let mut i = at;
-    while i < text.len() {
-        if text[i] == byte {
-            return i;
+impl<'a> Fields<'a> {
+    // A line's word, and its fields.
+    pub fn of(line: &'a [u8]) -> (&'a [u8], Fields<'a>) {
+        let end = line.iter().position(|b| *b == b' ').unwrap_or(line.len());
+        let (word, rest) = line.split_at(end);
+        (word, Fields { rest })
+    }
+
+    // The number of up to 16 digits that is next.
+    pub fn number(&mut self) -> Option<u64> {
+        let text = self.rest.strip_prefix(b" ")?;
+        let end = text
+            .iter()
+            .position(|b| digit(*b).is_none())
+            .unwrap_or(text.len());
+        let (digits, rest) = text.split_at(end.min(16));
+        self.rest = rest;
+        if digits.is_empty() {
+            return None;
         }
-        i += 1;
+        Some(
+            digits.iter().fold(0, |x: u64, b| {
+                (x << 4) | u64::from(digit(*b).unwrap_or(0))
+            }),
+        )
     }
-    i
-}
 
-// Where the line that starts at `at` ends.
-pub fn line_end(text: &[u8], at: usize) -> usize
-    requires { at ≤ length text.now }
-    ensures { (at ≤ result) × (result ≤ length text.now) }
-{
-    find(text, at, b'\n')
-}
-
-// Where a line's word ends.
-pub fn word_end(line: &[u8]) -> usize
-    ensures { result ≤ length line.now }
-{
-    find(line, 0, b' ')
-}
-
-// Whether the word of a line, which ends at `end`, is this one.
-pub fn is(line: &[u8], end: usize, word: &[u8]) -> bool
-    requires { end ≤ length line.now }
-{
-    &line[0..end] == word
-}
-
-// The value of a hexadecimal digit, 16 for any other byte.
-fn digit(b: u8) -> u64
-    ensures { result < 17 }
-{
-    if b < b'0' {
-        return 16;
+    // As a place or a count.
+    pub fn count(&mut self) -> Option<usize> {
+        Some(self.number()? as usize)
     }
-    if b <= b'9' {
-        return (b - b'0') as u64;
-    }
-    if b < b'a' {
-        return 16;
-    }
-    if b <= b'f' {
-        return (b - b'a' + 10) as u64;
-    }
-    16
-}
 
-// The digit at a place, 16 past the end.
-fn digit_at(line: &[u8], at: usize) -> u64
-    ensures { result < 17 }
-{
-    if at < line.len() { digit(line[at]) } else { 16 }
-}
-
-// Before the first field, behind the word.
-pub fn start(word: usize) -> Field {
-    Field {
-        value: 0,
-        next: word,
-        good: true,
+    // A whole number by its two's complement.
+    pub fn whole(&mut self) -> Option<i64> {
+        Some(self.number()?.cast_signed())
     }
-}
 
-// The place past a byte that stands at `at`, 0 where it does not stand there.
-fn past(line: &[u8], at: usize, byte: u8) -> usize
-    ensures { result ≤ length line.now }
-{
-    if line.len() <= at {
-        return 0;
+    // A float by its pattern.
+    pub fn float(&mut self) -> Option<f64> {
+        Some(float_of(self.number()?))
     }
-    if line[at] == byte { at + 1 } else { 0 }
-}
 
-// The number of up to 16 digits that stands, after a space, behind the fields before.
-pub fn number(line: &[u8], before: Field) -> Field {
-    let from = past(line, before.next, b' ');
-    let mut x: u64 = 0;
-    let mut p = from;
-    let mut left: usize = 16;
-    while 0 < left {
-        let d = digit_at(line, p);
-        if 15 < d {
-            break;
+    // 0 for no, 1 for yes.
+    pub fn yes(&mut self) -> Option<bool> {
+        match self.number()? {
+            0 => Some(false),
+            1 => Some(true),
+            _ => None,
         }
-        x = (x << 4) | d;
-        p += 1;
-        left -= 1;
     }
-    Field {
-        value: x,
-        next: p,
-        good: before.good & (0 < from) & (from < p),
-    }
-}
 
-// The bytes, two digits each, that stand from `from` on: into the room, and how many.
-fn pairs(line: &[u8], from: usize, room: &mut [u8]) -> usize
-    requires { from ≤ length line.now }
-    ensures { (result ≤ length room.old) × (from + result + result ≤ length line.now) }
-{
-    let mut p = from;
-    let mut n: usize = 0;
-    while n < room.len() {
-        if line.len() - p < 2 {
-            break;
+    // The bytes, two digits each, that are next, or `-` for none: into the room, and how many.
+    pub fn bytes(&mut self, room: &mut [u8]) -> Option<usize>
+        ensures { IfSome result (λ n. n ≤ length room.old) }
+    {
+        let mut text = self.rest.strip_prefix(b" ")?;
+        if let Some(rest) = text.strip_prefix(b"-") {
+            self.rest = rest;
+            return Some(0);
         }
-        let high = digit(line[p]);
-        let low = digit(line[p + 1]);
-        if 15 < high {
-            break;
+        let mut n: usize = 0;
+        for (i, slot) in room.iter_mut().enumerate() {
+            let Some((b, rest)) = byte(text) else {
+                break;
+            };
+            *slot = b;
+            text = rest;
+            n = i + 1;
         }
-        if 15 < low {
-            break;
-        }
-        room[n] = (high * 16 + low) as u8;
-        p += 2;
-        n += 1;
+        self.rest = text;
+        if n == 0 { None } else { Some(n) }
     }
-    n
-}
 
-// The bytes that stand, after a space, behind the fields before: into the room, and how many.
-pub fn bytes(line: &[u8], before: Field, room: &mut [u8]) -> Field
-    ensures { result.value ≤ length room.old }
-{
-    let from = past(line, before.next, b' ');
-    let n = pairs(line, from, room);
-    if n == 0 {
-        let next = past(line, from, b'-');
-        return Field {
-            value: 0,
-            next: next,
-            good: before.good & (0 < from) & (0 < next),
-        };
+    // The coordinates, eight digits each, that are next: into the room, and how many. Bytes that make no whole
+    // coordinate, or more than there is room for, are none.
+    pub fn ring(&mut self, out: &mut [i32]) -> Option<usize>
+        ensures { IfSome result (λ n. n ≤ length out.old) }
+    {
+        let mut room = [0u8; 256];
+        let n = self.bytes(&mut room)?;
+        if (n % 4 != 0) | (out.len() < n / 4) {
+            return None;
+        }
+        for (z, four) in out.iter_mut().zip(room[..n].chunks_exact(4)) {
+            *z = i32::from_be_bytes([four[0], four[1], four[2], four[3]]);
+        }
+        Some(n / 4)
     }
-    Field {
-        value: n as u64,
-        next: from + n + n,
-        good: before.good & (0 < from),
-    }
-}
 
-// Whether a line is good to its end, which is behind these fields.
-pub fn ends(line: &[u8], last: Field) -> bool {
-    last.good & (last.next == line.len())
+    // That the line ends here.
+    pub fn end(self) -> Option<()> {
+        if self.rest.is_empty() { Some(()) } else { None }
+    }
 }

@@ -1,8 +1,7 @@
 // Questions and answers, one a line, in the form of docs/REPLAY.md: what the programs that replay the Rust's answers share.
 #![tactic(auto)]
 
+pub mod ask;
 pub mod fields;
 pub mod print;
 pub mod read;
-pub mod rings;
-pub mod signed;

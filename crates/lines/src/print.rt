@@ -24,21 +24,18 @@ pub fn number(rt: &impl Print, x: u64) -> io::Result<()> {
 
 // A whole number by its two's complement.
 pub fn whole(rt: &impl Print, x: i64) -> io::Result<()> {
-    if x < 0 {
-        return number(rt, 0xffff_ffff_ffff_ffff - ((0 - (x + 1)) as u64));
-    }
-    number(rt, x as u64)
+    number(rt, x.cast_unsigned())
 }
 
 pub fn float(rt: &impl Print, x: f64) -> io::Result<()> {
-    if x != x {
+    if x.is_nan() {
         return text(rt, b"nan");
     }
-    number(rt, f64::to_bits(x))
+    number(rt, x.to_bits())
 }
 
 pub fn bytes(rt: &impl Print, b: &[u8]) -> io::Result<()> {
-    if b.len() == 0 {
+    if b.is_empty() {
         text(rt, b"-")?;
     }
     for x in b {
@@ -47,17 +44,15 @@ pub fn bytes(rt: &impl Print, b: &[u8]) -> io::Result<()> {
     Ok(())
 }
 
+// Not the form of `Refusal`'s Display, which is the sample sheet's.
 pub fn refused(rt: &impl Print, r: Refusal) -> io::Result<()> {
-    text(rt, b"refused ")?;
-    number(rt, r.number() as u64)?;
-    space(rt)?;
-    number(rt, r.place() as u64)
+    print!(rt; "refused {:016x} {:016x}", r.number(), r.place())
 }
 
 pub fn said(rt: &impl Print, answer: Answer) -> io::Result<()> {
     match answer {
-        Answer::Yes => text(rt, b"yes"),
-        Answer::No => text(rt, b"no"),
-        Answer::Refused(r) => refused(rt, r),
+        Ok(true) => text(rt, b"yes"),
+        Ok(false) => text(rt, b"no"),
+        Err(r) => refused(rt, r),
     }
 }

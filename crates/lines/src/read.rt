@@ -13,6 +13,7 @@ pub fn read_full<R: Read>(from: &mut R, room: &mut [u8]) -> io::Result<usize>
     ensures end { IfOk result (λ n. n < length room.new → IsAtEnd (R.remaining from.new)) }
 {
     let mut done: usize = 0;
+    // no `for`: a read gives any count, and `read_to_end` wants a heap, `read_exact` the length
     while done < room.len() {
         let n = from.read(&mut room[done..])?;
         if n == 0 {

@@ -1,5 +1,6 @@
 -- Demand 3 for an outline: with the record of its own boxes, and for each ring none, stripes, a tree or both, each built from that ring, the inside
 -- question has one and the same answer, which is that of the segments alone. Assumes nothing.
+use Rattle.std.specs.Prelude.{Ok, Err}
 use mathlib.Core.Path.{◌≡◌, refl, sym, ap, ◌∙◌}
 use mathlib.Core.Bool.{Bool, true, ◌&&◌}
 use mathlib.Core.List.{List, ◌++◌}
@@ -12,8 +13,7 @@ use borrow.Author.Tests.{le-leb}
 use Rattle.boxes.specs.declared.Point.{Point}
 use Rattle.boxes.specs.declared.Rect.{Rect}
 use Rattle.boxes.specs.Boxes.{holds}
-use Rattle.rings.specs.declared.Checked.{Checked}
-use Rattle.rings.specs.declared.Checked.TheVariants.{Sound, Faulty}
+use Rattle.rings.specs.Checks.{Checked}
 use Rattle.rings.specs.Ring.{wide, segments}
 use Rattle.rings.specs.I32s.{I32s}
 use Rattle.rings.specs.Checks.{when_sound}
@@ -43,7 +43,7 @@ module _ (outline : Outline) (sizes : List ℕ) (coords : List ℤ) (nums : I32s
   fits : record_fits sizes boxes ≡ true
   fits = le-leb (4 * rings sizes) (length boxes) (omega (arith, boxes_length sizes coords (rings sizes), length-append (boxes_of sizes coords) rest))
 
-  module _ (sound : outline_checked outline.scale sizes coords ≡ Sound) where
+  module _ (sound : outline_checked outline.scale sizes coords ≡ Ok tt) where
     passed : Passed outline.scale sizes coords
     passed = (sound_outline true outline.scale sizes coords sound).1
 
@@ -85,8 +85,8 @@ module _ (outline : Outline) (sizes : List ℕ) (coords : List ℤ) (nums : I32s
     where
       go : (c : Checked) → outline_checked outline.scale sizes coords ≡ c
           → when_sound c (asked_at sizes coords boxes x edge (scaled_query outline p)) ≡ when_sound c (plain_asked sizes coords edge (scaled_query outline p))
-      go Sound e = asked_same e (scaled_query outline p) refl
-      go (Faulty why) e = refl
+      go (Ok _) e = asked_same e (scaled_query outline p) refl
+      go (Err why) e = refl
 
 -- so any two choices of indexes, and any two rooms in which the record stands, give one answer
 pub one_answer : (outline : Outline) (sizes : List ℕ) (coords : List ℤ) → I32s coords → (rest rest' : List ℤ) (x x' : Indexes)

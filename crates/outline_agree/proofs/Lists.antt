@@ -1,5 +1,6 @@
 -- Demand 3 for lists: the scan, a ring's own stripes and a ring's own tree list the same segments, exactly those whose own closed height range holds
 -- y, each once. Assumes nothing.
+use Rattle.std.specs.Prelude.{Ok}
 use mathlib.Core.Path.{◌≡◌}
 use mathlib.Core.List.{List, [], append-nil}
 use mathlib.Core.Bool.{true}
@@ -10,7 +11,6 @@ use lib.Ieee.{Float}
 use lib.Ieee.Scale.{finite}
 use Rattle.room.specs.Numbers.{bit, count}
 use Rattle.room.proofs.Count.{count_up_to, count_up_to_past}
-use Rattle.rings.specs.declared.Checked.TheVariants.{Sound}
 use Rattle.rings.specs.Ring.{wide, side_at, segments, holds_height, meeting}
 use Rattle.rings.specs.I32s.{I32s}
 use Rattle.rings.specs.Checks.{ring_checked}
@@ -39,7 +39,7 @@ module _ (ring : ℕ → Float) (points : ℕ) (y : Float) where
   unfolding meeting
   no_other i h = count_up_to_past (λ i. holds_height (side_at ring i) y) i (segments points) 0 h
 
-module _ (ring : List ℤ) (points : ℕ) (y : Float) (sound : ring_checked ring points ≡ Sound) where
+module _ (ring : List ℤ) (points : ℕ) (y : Float) (sound : ring_checked ring points ≡ Ok tt) where
   -- the scan lists it by rising number
   pub scan_lists : (out : List ℕ) → finite y ≡ true → scanned ring points y out ≡ listed_in (meeting (wide ring) points y) out
   unfolding scanned_by

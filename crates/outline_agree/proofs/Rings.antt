@@ -1,5 +1,6 @@
 -- Demand 3 for one ring: whichever of its own indexes is read, the ring test is that of the segments whose own height range holds the point's
 -- height. And the reading of rings by tests that agree. Assumes nothing.
+use Rattle.std.specs.Prelude.{Ok}
 use mathlib.Core.Path.{◌≡◌, refl, sym, ap, ap₂, ◌∙◌}
 use mathlib.Core.Bool.{Bool, true, false, cond, ◌&&◌}
 use mathlib.Core.List.{List}
@@ -9,11 +10,9 @@ use lib.ListN.{drop}
 use lib.Seq.{get_or-take, get_or-drop}
 use lib.IntN.{ℤ, pos}
 use lib.Ieee.Scale.{finite}
-use Rattle.answers.specs.declared.Answer.{Answer}
-use Rattle.answers.specs.declared.Answer.TheVariants.{No}
+use Rattle.answers.specs.Answers.{Answer}
 use Rattle.answers.specs.Answers.{said}
 use Rattle.boxes.specs.declared.Point.{Point}
-use Rattle.rings.specs.declared.Checked.TheVariants.{Sound}
 use Rattle.rings.specs.Ring.{wide, segments, meeting}
 use Rattle.rings.specs.I32s.{I32s}
 use Rattle.rings.specs.Checks.{ring_checked}
@@ -37,7 +36,7 @@ use Rattle.outline_agree.specs.Own.{OwnStripes, OwnIndex}
 use Rattle.outline_agree.proofs.Lists.{stripes_list}
 
 -- ---- one ring
-module _ (x : Indexes) (k : ℕ) (ring : List ℤ) (points : ℕ) (sound : ring_checked ring points ≡ Sound) (nums : I32s ring) (own : OwnIndex x k (wide ring) points)
+module _ (x : Indexes) (k : ℕ) (ring : List ℤ) (points : ℕ) (sound : ring_checked ring points ≡ Ok tt) (nums : I32s ring) (own : OwnIndex x k (wide ring) points)
     (p : Point) (edge : Bool) (fit : (finite p.x && finite p.y) ≡ true) where
   -- the scan's
   meeting_scan : said (test_of (wide ring) p edge (meeting (wide ring) points p.y)) ≡ said (scan_of (wide ring) (segments points) p edge)
@@ -90,5 +89,5 @@ pub rings_same : (a b : Bool) (f g : ℕ → Bool → Answer) (n : ℕ) (edge : 
     → through_rings a f n edge ≡ through_rings b g n edge
 unfolding through_rings
 rings_same a b f g n edge some e h =
-    ap₂ (λ (c : Bool) (r : Answer). cond c r No) e
+    ap₂ (λ (c : Bool) (r : Answer). cond c r (Ok false)) e
     (ap₂ after_exterior (h 0 some edge) (holes_same (λ k. f k false) (λ k. g k false) (n - 1) 1 (λ j l. h j (omega arith) false)))

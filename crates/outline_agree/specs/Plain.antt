@@ -1,8 +1,7 @@
 -- The inside question by the segments alone: no record and no index is lent. Each ring is tested by those of its segments whose own closed height
 -- range holds the point's height.
-use Rattle.std.specs.Prelude.{Bool, List, ℕ, ℤ}
-use Rattle.answers.specs.declared.Answer.{Answer}
-use Rattle.answers.specs.declared.Answer.TheVariants.{No}
+use Rattle.std.specs.Prelude.{Ok, Bool, List, ℕ, ℤ, false}
+use Rattle.answers.specs.Answers.{Answer}
 use Rattle.answers.specs.Answers.{said}
 use Rattle.boxes.specs.declared.Point.{Point}
 use Rattle.boxes.specs.Boxes.{holds}
@@ -32,7 +31,7 @@ module _ (sizes : List ℕ) (coords : List ℤ) where
   grid_in_exterior px py = grid_box_holds (box_numbers (ring_of sizes coords 0) (size_at sizes 0)) 0 px py
 
   abbrev pub plain_asked : Bool → Query → Answer
-  plain_asked edge Outside = No
+  plain_asked edge Outside = Ok false
   plain_asked edge (FloatPlace px py) =
       let p : Point = record { x = px; y = py } in through_rings (in_exterior p) (plain_test p) (rings sizes) edge
   plain_asked edge (WholePlace px py) = through_rings (grid_in_exterior px py) (grid_test sizes coords px py) (rings sizes) edge

@@ -1,7 +1,6 @@
 -- 01, "Asking": the inside question of an outline as it is lent, with its record of boxes and the indexes of its rings.
-use Rattle.std.specs.Prelude.{Bool, false, cond, List, ℕ, zero, suc, ◌+◌, ◌-◌, ◌*◌, leb, length, ℤ}
-use Rattle.answers.specs.declared.Answer.{Answer}
-use Rattle.answers.specs.declared.Answer.TheVariants.{Yes, No, Refused}
+use Rattle.std.specs.Prelude.{Ok, Err, Bool, true, false, cond, List, ℕ, zero, suc, ◌+◌, ◌-◌, ◌*◌, leb, length, ℤ}
+use Rattle.answers.specs.Answers.{Answer}
 use Rattle.answers.specs.Answers.{said}
 use Rattle.boxes.specs.declared.Point.{Point}
 use Rattle.boxes.specs.Boxes.{holds}
@@ -19,26 +18,26 @@ use Rattle.outline_ask.specs.Query.{scaled_query}
 
 -- "The first ring that settles the answer ends the reading": the exterior does unless it holds the point
 abbrev pub after_exterior : Answer → Answer → Answer
-after_exterior Yes later = later
-after_exterior No later = No
-after_exterior (Refused why) later = Refused why
+after_exterior (Ok true) later = later
+after_exterior (Ok false) later = Ok false
+after_exterior (Err why) later = Err why
 
 -- and a hole does if it holds the point
 abbrev pub after_hole : Answer → Answer → Answer
-after_hole Yes later = No
-after_hole No later = later
-after_hole (Refused why) later = Refused why
+after_hole (Ok true) later = Ok false
+after_hole (Ok false) later = later
+after_hole (Err why) later = Err why
 
 -- n holes from ring k on; a point that none of them holds is in
 unfoldable pub holes_from : (ℕ → Answer) → ℕ → ℕ → Answer
-holes_from hole zero k = Yes
+holes_from hole zero k = Ok true
 holes_from hole (suc n) k = after_hole (hole k) (holes_from hole n (k + 1))
 
 -- "outside unless it lies in the exterior's closed box, then the exterior test, then each hole": ring 0, then the others by rising number.
 -- "Holes are always tested with the edge excluded". `test` is the ring test of a ring by its number, with an edge rule.
 unfoldable pub through_rings : Bool → (ℕ → Bool → Answer) → ℕ → Bool → Answer
 through_rings in_box test count edge =
-    cond in_box (after_exterior (test 0 edge) (holes_from (λ k. test k false) (count - 1) 1)) No
+    cond in_box (after_exterior (test 0 edge) (holes_from (λ k. test k false) (count - 1) 1)) (Ok false)
 
 -- ring k's test at a float place, through its index; the box of its tree is the ring's own, as the record has it
 abbrev pub float_test : List ℕ → List ℤ → List ℤ → Indexes → Point → ℕ → Bool → Answer
@@ -59,7 +58,7 @@ abbrev pub grid_asked : List ℕ → List ℤ → List ℤ → ℤ → ℤ → B
 grid_asked sizes coords boxes px py edge = through_rings (grid_box_holds boxes 0 px py) (grid_test sizes coords px py) (rings sizes) edge
 
 abbrev pub asked_at : List ℕ → List ℤ → List ℤ → Indexes → Bool → Query → Answer
-asked_at sizes coords boxes x edge Outside = No
+asked_at sizes coords boxes x edge Outside = Ok false
 asked_at sizes coords boxes x edge (FloatPlace px py) = float_asked sizes coords boxes x (record { x = px; y = py }) edge
 asked_at sizes coords boxes x edge (WholePlace px py) = grid_asked sizes coords boxes px py edge
 

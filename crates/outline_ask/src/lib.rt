@@ -1,26 +1,27 @@
 // The inside question of an outline, in both modes and under both edge rules.
 #![tactic(auto)]
 
-ghost use Rattle.std.specs.Prelude.{◌≡◌, false, ◌-◌, ◌*◌, ◌<◌, ◌≤◌, length};
-ghost use Rattle.outline_check.specs.Outline.{rings, start_of};
-ghost use Rattle.outline_check.specs.Inner.Counted.{Counted};
-ghost use Rattle.outline_ring.specs.RingIndex.{lent};
+ghost use Rattle.std.specs.Prelude.{◌≡◌, ℕ, ℤ, List, Bool, false, ◌+◌, ◌-◌, ◌*◌, ◌<◌, ◌≤◌, length};
+ghost use Rattle.answers.specs.Answers.{Answer};
+ghost use Rattle.rings.specs.Ring.{segments};
+ghost use Rattle.outline_check.specs.Outline.{rings, start_of, size_at, ring_of};
+ghost use Rattle.outline_ring.specs.RingIndex.{lent_in};
 ghost use Rattle.outline_ask.specs.Query.{scaled_query};
-ghost use Rattle.outline_ask.specs.Inside.{holes_from, float_test, grid_holds, grid_test, float_asked, grid_asked, inside_of};
+ghost use Rattle.outline_ask.specs.Inside.{holes_from, through_rings, inside_of};
+ghost use Rattle.outline_ask.specs.Inner.Tests.{on_rings};
 
 use answers::Answer;
 use boxes::Point;
 use floats::is_finite;
 use grid::grid_in;
-use outline_check::{Outline, RaycastMode, check_outline_with};
+use outline_check::{Outline, RaycastMode, Rings, check_outline_with};
 use outline_record::{grid_box_holds, rect_at};
-use outline_ring::ring_asked;
-use rings::Checked;
+use outline_ring::{Indexes, ring_asked};
 use tree::QuadTree;
 use whole::round;
 
 // A scaled query: outside, a float place, or a whole place.
-#[derive(Clone, Copy)]
+#[derive(Clone, Copy, Debug, PartialEq)]
 pub enum Query {
     Outside,
     Float(f64, f64),
@@ -28,14 +29,14 @@ pub enum Query {
 }
 
 // A point of any floats, scaled. The caller has asked rule 5 of the scale.
+#[tactic(auto, unfolding(crate::specs::Query::scaled_query))]
 fn scaled(outline: Outline, p: Point) -> Query
     ensures { result ≡ scaled_query outline p }
 {
     let x = p.x * outline.scale;
     let y = p.y * outline.scale;
     if (is_finite(p.x) & is_finite(p.y)) & (is_finite(x) & is_finite(y)) {
-        let mode = outline.mode;
-        match mode {
+        match outline.mode {
             RaycastMode::Float => Query::Float(x, y),
             RaycastMode::Integer => Query::Grid(round(x), round(y)),
         }
@@ -44,170 +45,139 @@ fn scaled(outline: Outline, p: Point) -> Query
     }
 }
 
-// Ring k at a float place. Its numbers start at `at`.
-fn ring_at(
-    sizes: &[u32],
-    coords: &[i32],
-    boxes: &[i32],
-    table: &[u64],
-    spans: &[f64],
-    stripes: &[u32],
-    list: &[u32],
-    bytes: &[u8],
-    k: usize,
-    at: usize,
+// How the rings are asked at a scaled place.
+trait RingTest {
+    // Whether the exterior's box holds the place.
+    ghost boxed: { Self → Bool };
+
+    // What ring k, which has these numbers and n segments, answers under an edge rule.
+    ghost asked: { Self → List ℤ → ℕ → ℕ → Bool → Answer };
+
+    fn in_box(&self) -> bool
+        ensures { result ≡ boxed self.now };
+
+    fn ask(&self, ring: &[i32], n: usize, k: usize, edge: bool) -> Answer
+        requires { (n * 2 + 2 ≤ length ring.now) × (n < 4294967296) × (k < 64) }
+        ensures { result ≡ asked self.now ring.now n k edge };
+}
+
+// At a float place: by the record's boxes and the indexes.
+#[derive(Clone, Copy)]
+struct FloatTest<'a> {
+    boxes: &'a [i32],
+    lent: Indexes<'a>,
     p: Point,
-    edge: bool,
-) -> Answer
-    requires { Counted sizes.now coords.now × (k < length sizes.now) × (at ≡ 2 * start_of sizes.now k) }
-    ensures { result ≡ float_test sizes.now coords.now boxes.now (lent table.now spans.now stripes.now list.now bytes.now) p k edge }
+}
+
+impl<'a> RingTest for FloatTest<'a> {
+    ghost use Rattle.outline_ask.specs.Inner.Tests.{float_boxed, float_answer};
+
+    ghost boxed = { float_boxed };
+
+    ghost asked = { float_answer };
+
+    fn in_box(&self) -> bool {
+        let bounds = rect_at(self.boxes, 0);
+        bounds.contains_point(self.p)
+    }
+
+    fn ask(&self, ring: &[i32], n: usize, k: usize, edge: bool) -> Answer {
+        let tree = QuadTree {
+            bounds: rect_at(self.boxes, k),
+            segments: n,
+        };
+        ring_asked(tree, ring, k, self.lent, self.p, edge)
+    }
+}
+
+// At a whole place: by whole numbers, without index.
+#[derive(Clone, Copy)]
+struct GridTest<'a> {
+    boxes: &'a [i32],
+    x: i64,
+    y: i64,
+}
+
+impl<'a> RingTest for GridTest<'a> {
+    ghost use Rattle.outline_ask.specs.Inner.Tests.{grid_boxed, grid_answer};
+
+    ghost boxed = { grid_boxed };
+
+    ghost asked = { grid_answer };
+
+    fn in_box(&self) -> bool {
+        grid_box_holds(self.boxes, 0, self.x, self.y)
+    }
+
+    fn ask(&self, ring: &[i32], n: usize, _k: usize, edge: bool) -> Answer {
+        Ok(grid_in(ring, n, self.x, self.y, edge))
+    }
+}
+
+// Ring k, whose numbers start at `at`.
+fn ask_ring<T: RingTest>(sound: Rings, test: &T, k: usize, at: usize, edge: bool) -> Answer
+    requires { (k < length sound.sizes.now) × (at ≡ 2 * start_of sound.sizes.now k) }
+    ensures { result ≡ on_rings (T.asked test.now) sound.entry.sizes.now sound.entry.coords.now k edge }
 {
-    let points = sizes[k] as usize;
+    let points = sound.sizes[k] as usize;
     let end = at + 2 * points;
-    let bounds = rect_at(boxes, k);
-    let tree = QuadTree {
-        bounds,
-        segments: points - 1,
-    };
-    let ring = &coords[at..end];
-    ring_asked(tree, ring, k, table, spans, stripes, list, bytes, p, edge)
+    test.ask(&sound.coords[at..end], points - 1, k, edge)
 }
 
-// The holes at a float place: the first that settles the answer ends the reading.
-fn float_holes(
-    sizes: &[u32],
-    coords: &[i32],
-    boxes: &[i32],
-    table: &[u64],
-    spans: &[f64],
-    stripes: &[u32],
-    list: &[u32],
-    bytes: &[u8],
-    p: Point,
-) -> Answer
-    requires { Counted sizes.now coords.now }
-    ensures { result ≡ holes_from (λ k. float_test sizes.now coords.now boxes.now (lent table.now spans.now stripes.now list.now bytes.now) p k false) (rings sizes.now - 1) 1 }
+// The holes: the first that settles the answer ends the reading.
+fn ask_holes<T: RingTest>(sound: Rings, test: &T) -> Answer
+    ensures { result ≡ holes_from (λ k. on_rings (T.asked test.now) sound.entry.sizes.now sound.entry.coords.now k false) (rings sound.entry.sizes.now - 1) 1 }
 {
-    let mut at = 2 * (sizes[0] as usize);
-    let mut k: usize = 1;
-    while k < sizes.len() {
-        match ring_at(
-            sizes, coords, boxes, table, spans, stripes, list, bytes, k, at, p, false,
-        ) {
-            Answer::Yes => return Answer::No,
-            Answer::Refused(why) => return Answer::Refused(why),
-            Answer::No => {
-                at += 2 * (sizes[k] as usize);
-                k += 1;
-            }
+    let mut at = 2 * (sound.sizes[0] as usize);
+    for k in 1..sound.sizes.len() {
+        if ask_ring(sound, test, k, at, false)? {
+            return Ok(false);
         }
+        at += 2 * (sound.sizes[k] as usize);
     }
-    Answer::Yes
+    Ok(true)
 }
 
-// Float mode: the exterior's box, the exterior, the holes.
-fn float_inside(
-    sizes: &[u32],
-    coords: &[i32],
-    boxes: &[i32],
-    table: &[u64],
-    spans: &[f64],
-    stripes: &[u32],
-    list: &[u32],
-    bytes: &[u8],
-    p: Point,
-    edge: bool,
-) -> Answer
-    requires { Counted sizes.now coords.now }
-    ensures { result ≡ float_asked sizes.now coords.now boxes.now (lent table.now spans.now stripes.now list.now bytes.now) p edge }
+// The exterior's box, the exterior, the holes.
+fn ask_all<T: RingTest>(sound: Rings, test: &T, edge: bool) -> Answer
+    ensures { result ≡ through_rings (T.boxed test.now) (on_rings (T.asked test.now) sound.entry.sizes.now sound.entry.coords.now) (rings sound.entry.sizes.now) edge }
 {
-    let bounds = rect_at(boxes, 0);
-    if !bounds.contains_point(p) {
-        return Answer::No;
+    if !test.in_box() {
+        return Ok(false);
     }
-    match ring_at(
-        sizes, coords, boxes, table, spans, stripes, list, bytes, 0, 0, p, edge,
-    ) {
-        Answer::Yes => float_holes(sizes, coords, boxes, table, spans, stripes, list, bytes, p),
-        Answer::No => Answer::No,
-        Answer::Refused(why) => Answer::Refused(why),
+    if !ask_ring(sound, test, 0, 0, edge)? {
+        return Ok(false);
     }
-}
-
-// Ring k at a whole place. Its numbers start at `at`.
-fn grid_at(sizes: &[u32], coords: &[i32], k: usize, at: usize, px: i64, py: i64, edge: bool) -> bool
-    requires { Counted sizes.now coords.now × (k < length sizes.now) × (at ≡ 2 * start_of sizes.now k) }
-    ensures { result ≡ grid_holds sizes.now coords.now px py k edge }
-{
-    let points = sizes[k] as usize;
-    let end = at + 2 * points;
-    grid_in(&coords[at..end], points - 1, px, py, edge)
-}
-
-// The holes at a whole place.
-fn grid_holes(sizes: &[u32], coords: &[i32], px: i64, py: i64) -> Answer
-    requires { Counted sizes.now coords.now }
-    ensures { result ≡ holes_from (λ k. grid_test sizes.now coords.now px py k false) (rings sizes.now - 1) 1 }
-{
-    let mut at = 2 * (sizes[0] as usize);
-    let mut k: usize = 1;
-    while k < sizes.len() {
-        if grid_at(sizes, coords, k, at, px, py, false) {
-            return Answer::No;
-        }
-        at += 2 * (sizes[k] as usize);
-        k += 1;
-    }
-    Answer::Yes
-}
-
-// Integer mode: the same by whole numbers, without index.
-fn grid_inside(sizes: &[u32], coords: &[i32], boxes: &[i32], px: i64, py: i64, edge: bool) -> Answer
-    requires { Counted sizes.now coords.now }
-    ensures { result ≡ grid_asked sizes.now coords.now boxes.now px py edge }
-{
-    if !grid_box_holds(boxes, 0, px, py) {
-        return Answer::No;
-    }
-    if !grid_at(sizes, coords, 0, 0, px, py, edge) {
-        return Answer::No;
-    }
-    grid_holes(sizes, coords, px, py)
+    ask_holes(sound, test)
 }
 
 // Whether the outline holds p: checks 1 to 5, then the question. The record of boxes and the indexes are
 // read as they stand.
+// The outline's own rooms stay arguments of their own, as every call on an outline is lent them (docs/PROMISES.md).
 pub fn inside(
     outline: Outline,
     sizes: &[u32],
     coords: &[i32],
     boxes: &[i32],
-    table: &[u64],
-    spans: &[f64],
-    stripes: &[u32],
-    list: &[u32],
-    bytes: &[u8],
+    lent: Indexes,
     p: Point,
     edge: bool,
 ) -> Answer
-    ensures { result ≡ inside_of outline sizes.now coords.now boxes.now (lent table.now spans.now stripes.now list.now bytes.now) p edge }
+    ensures { result ≡ inside_of outline sizes.now coords.now boxes.now (lent_in lent.entry) p edge }
 {
     let fits = sizes.len() <= boxes.len() / 4;
-    let checked = check_outline_with(fits, outline, sizes, coords);
-    match checked {
-        Checked::Faulty(why) => Answer::Refused(why),
-        Checked::Sound => {
-            let query = scaled(outline, p);
-            match query {
-                Query::Outside => Answer::No,
-                Query::Float(x, y) => {
-                    let at = Point { x, y };
-                    float_inside(
-                        sizes, coords, boxes, table, spans, stripes, list, bytes, at, edge,
-                    )
-                }
-                Query::Grid(x, y) => grid_inside(sizes, coords, boxes, x, y, edge),
-            }
+    check_outline_with(fits, outline, sizes, coords)?;
+    let sound = Rings { sizes, coords };
+    match scaled(outline, p) {
+        Query::Outside => Ok(false),
+        Query::Float(x, y) => {
+            let p = Point { x, y };
+            let test = FloatTest { boxes, lent, p };
+            ask_all(sound, &test, edge)
+        }
+        Query::Grid(x, y) => {
+            let test = GridTest { boxes, x, y };
+            ask_all(sound, &test, edge)
         }
     }
 }

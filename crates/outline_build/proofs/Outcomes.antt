@@ -1,4 +1,5 @@
 -- The ways through building, each as a law. Assumes nothing.
+use Rattle.std.specs.Prelude.{Ok, Err}
 use Prim.Native.Nat.{ℕ, zero, suc, ◌*◌, ◌≤◌, ◌<◌}
 use mathlib.Core.Path.{◌≡◌, refl, sym, ap, ap₂, ◌∙◌}
 use mathlib.Core.List.{List}
@@ -11,7 +12,6 @@ use lib.IntN.{ℤ}
 use lib.Ieee.{Float}
 use Rattle.answers.specs.declared.Refusal.{Refusal}
 use Rattle.answers.specs.declared.Refusal.TheVariants.{NoRoom}
-use Rattle.rings.specs.declared.Checked.TheVariants.{Sound, Faulty}
 use Rattle.outline_check.specs.Outline.{rings, size_at, ring_of}
 use Rattle.outline_check.specs.Rules.{shape_checked}
 use Rattle.outline_index.specs.declared.BuildOptions.{BuildOptions}
@@ -19,9 +19,7 @@ use Rattle.outline_index.specs.Pools.{every}
 use Rattle.outline_index.specs.Parts.{no_height, span_part, few_stripes, enough_work}
 use Rattle.outline_index.proofs.Pools.{turn_like}
 use Rattle.rings.specs.Ring.{wide}
-use Rattle.outline_build.specs.declared.Built.{Built}
-use Rattle.outline_build.specs.declared.Built.TheVariants.{Indexed, Unbuilt}
-use Rattle.outline_build.specs.Indexes.{Outcome, zeroed, row_at, calls, roomy, indexed, indexes_built}
+use Rattle.outline_build.specs.Indexes.{Built, Outcome, zeroed, row_at, calls, roomy, indexed, indexes_built}
 use Rattle.outline_build.specs.Inner.Standing.{Zero, AllBuilt}
 use Rattle.outline_build.proofs.Roomy.{roomy_is}
 
@@ -63,16 +61,16 @@ module _ (options : BuildOptions) (sizes : List ℕ) (coords : List ℤ) (T : Li
           ))
       go false y = refl
 
-  pub lacking : roomy T F S L B W options sizes coords ≡ false → indexed T F S L B W options sizes coords ≡ zeroed T F S L B W (Unbuilt NoRoom)
+  pub lacking : roomy T F S L B W options sizes coords ≡ false → indexed T F S L B W options sizes coords ≡ zeroed T F S L B W (Err NoRoom)
   unfolding indexed
   lacking e = rw e
 
   -- rooms that are zero, of which those for the rows or the spans are too short
   pub lacks_first : (ltb (length T) (10 * rings sizes) || ltb (length F) (2 * rings sizes)) ≡ true → Zero T F S L B W
-      → indexed T F S L B W options sizes coords ≡ (Unbuilt NoRoom, T, F, S, L, B, W)
+      → indexed T F S L B W options sizes coords ≡ (Err NoRoom, T, F, S, L, B, W)
   lacks_first e z =
       lacking (go (ltb (length T) (10 * rings sizes)) (ltb (length F) (2 * rings sizes)) refl refl e)
-      ∙ alike (Unbuilt NoRoom) _ T _ F _ S _ L _ B _ W (sym z.rows) (sym z.heights) (sym z.pairs) (sym z.entries) (sym z.packed) (sym z.numbers)
+      ∙ alike (Err NoRoom) _ T _ F _ S _ L _ B _ W (sym z.rows) (sym z.heights) (sym z.pairs) (sym z.entries) (sym z.packed) (sym z.numbers)
     where
       go : (x y : Bool) → ltb (length T) (10 * rings sizes) ≡ x → ltb (length F) (2 * rings sizes) ≡ y → (x || y) ≡ true
           → roomy T F S L B W options sizes coords ≡ false
@@ -91,17 +89,17 @@ module _ (options : BuildOptions) (sizes : List ℕ) (coords : List ℤ) (T : Li
       go true y p q h = absurd (false≢true (sym h))
 
   module _ (t : List ℕ) (f : List Float) (s l b w : List ℕ) where
-    pub built_all_lem : AllBuilt options sizes coords T F S L B W true t f s l b w → indexed T F S L B W options sizes coords ≡ (Indexed (rings sizes), t, f, s, l, b, w)
+    pub built_all_lem : AllBuilt options sizes coords T F S L B W true t f s l b w → indexed T F S L B W options sizes coords ≡ (Ok (rings sizes), t, f, s, l, b, w)
     unfolding indexed AllBuilt
     built_all_lem a =
         rw a.0
-        (alike (Indexed (rings sizes)) _ t _ f _ s _ l _ b _ w (sym a.1) (sym a.2) (sym a.3) (sym a.4) (sym a.5) (sym a.6))
+        (alike (Ok (rings sizes)) _ t _ f _ s _ l _ b _ w (sym a.1) (sym a.2) (sym a.3) (sym a.4) (sym a.5) (sym a.6))
 
     -- only the rooms' lengths count
     module _ (p : length t ≡ length T) (q : length f ≡ length F) (u : length s ≡ length S) (v : length l ≡ length L) (x : length b ≡ length B)
         (y : length w ≡ length W) where
       pub built_short : AllBuilt options sizes coords T F S L B W false t f s l b w
-          → indexed T F S L B W options sizes coords ≡ zeroed t f s l b w (Unbuilt NoRoom)
+          → indexed T F S L B W options sizes coords ≡ zeroed t f s l b w (Err NoRoom)
       unfolding AllBuilt
       built_short a = lacking a ∙ rw (p, q, u, v, x, y)
 
@@ -114,7 +112,7 @@ module _ (options : BuildOptions) (sizes : List ℕ) (coords : List ℤ) (T : Li
 
 -- rooms that were filled with zeros are zero
 pub cleared : (T : List ℕ) (F : List Float) (S L B W : List ℕ) (r : Built) (t : List ℕ) (f : List Float) (s l b w : List ℕ)
-    → zeroed T F S L B W (Unbuilt NoRoom) ≡ (r, t, f, s, l, b, w) → Zero t f s l b w
+    → zeroed T F S L B W (Err NoRoom) ≡ (r, t, f, s, l, b, w) → Zero t f s l b w
 cleared T F S L B W r t f s l b w e = record {
   rows = zeros T t (ap (λ (o : Outcome). o.1) e);
   heights = let h = ap (λ (o : Outcome). o.2) e in sym h ∙ ap (λ (n : ℕ). replicate n no_height) (sym (length-replicate (length F) no_height) ∙ ap length h);
@@ -128,10 +126,10 @@ cleared T F S L B W r t f s l b w e = record {
     zeros xs ys h = sym h ∙ ap (λ (n : ℕ). replicate n 0) (sym (length-replicate {A = ℕ} (length xs) 0) ∙ ap length h)
 
 module _ (sizes : List ℕ) (coords : List ℤ) (options : BuildOptions) (T : List ℕ) (F : List Float) (S L B W : List ℕ) where
-  pub built_faulty : (why : Refusal) → shape_checked sizes coords ≡ Faulty why → indexes_built sizes coords options T F S L B W ≡ (Unbuilt why, T, F, S, L, B, W)
+  pub built_faulty : (why : Refusal) → shape_checked sizes coords ≡ Err why → indexes_built sizes coords options T F S L B W ≡ (Err why, T, F, S, L, B, W)
   unfolding indexes_built
   built_faulty why e = rw e
 
-  pub built_sound : shape_checked sizes coords ≡ Sound → indexes_built sizes coords options T F S L B W ≡ indexed T F S L B W options sizes coords
+  pub built_sound : shape_checked sizes coords ≡ Ok tt → indexes_built sizes coords options T F S L B W ≡ indexed T F S L B W options sizes coords
   unfolding indexes_built
   built_sound e = rw e

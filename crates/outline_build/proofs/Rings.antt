@@ -1,4 +1,5 @@
 -- Ring after ring: what the rooms hold before the first, after each, and after the last. Assumes nothing.
+use Rattle.std.specs.Prelude.{Some, None}
 use Prim.Native.Nat.{ℕ, ◌+◌, ◌*◌, ◌≤◌, ◌<◌}
 use mathlib.Core.Path.{◌≡◌, refl, sym, ap, ap₂, ◌∙◌}
 use mathlib.Core.List.{List, [], ◌∷◌, ◌++◌}
@@ -20,12 +21,10 @@ use Rattle.outline_check.proofs.Starts.{start_none, start_more}
 use Rattle.outline_index.specs.declared.BuildOptions.{BuildOptions}
 use Rattle.outline_index.specs.declared.Places.{Places}
 use Rattle.outline_index.specs.declared.Gain.{Gain}
-use Rattle.outline_index.specs.declared.Gained.{Gained}
-use Rattle.outline_index.specs.declared.Gained.TheVariants.{Parts, NoPlace}
+use Rattle.outline_index.specs.Inner.Step.{Gained, ZeroFrom, row_numbers, stripes_fit, tree_fits, gain_in, Stepped}
 use Rattle.outline_index.specs.Pools.{in_turn, pad_with, every}
 use Rattle.outline_index.specs.Parts.{no_height, stripes_part, list_part, bytes_part, span_part, stripes_in, entries_in, row_of, few_stripes, enough_work}
-use Rattle.outline_index.specs.Inner.Step.{ZeroFrom, row_numbers, stripes_fit, tree_fits, gain_in, Stepped}
-use Rattle.outline_index.proofs.Pools.{turn_more, turn_like, pad_is, pad_none, pad_length, pad_over, used_length, used_zero, used_more, every_more}
+use Rattle.outline_index.proofs.Pools.{turn_more, turn_like, pad_none, pad_length, pad_over, used_length, used_zero, used_more, every_more}
 use Rattle.outline_index.proofs.Steps.{stripes_length, step_done, step_short}
 use Rattle.outline_build.specs.Indexes.{stripes_to, list_to, bytes_to, spans_to, row_at, rows_to, calls, roomy}
 use Rattle.outline_build.specs.Inner.Standing.{Zero, Standing, AllBuilt}
@@ -58,7 +57,7 @@ over {A} z n k w f xs part like is this fits =
 module _ (options : BuildOptions) (sizes : List ℕ) (coords : List ℤ) (T : List ℕ) (F : List Float) (S L B W : List ℕ) where
   none_yet : (n : ℕ) (f : ℕ → List ℕ) (xs : List ℕ) → length xs ≡ n → xs ≡ replicate (length xs) 0 → xs ≡ pad n (in_turn f 0)
   none_yet n f xs l e =
-      e ∙ ap (λ (m : ℕ). replicate m 0) l ∙ sym (pad_none 0 n) ∙ sym (pad_is n []) ∙ ap (pad n) (sym (turn_none f))
+      e ∙ ap (λ (m : ℕ). replicate m 0) l ∙ sym (pad_none 0 n) ∙ ap (pad n) (sym (turn_none f))
 
   -- before the first ring
   pub standing_first : Zero T F S L B W → Standing options sizes coords T F S L B W 0 (record { stripes = 0; list = 0; bytes = 0 }) 0 T F S L B W
@@ -116,13 +115,13 @@ module _ (options : BuildOptions) (sizes : List ℕ) (coords : List ℤ) (T : Li
     fits = stripes_fit options ring points at s l && tree_fits options ring points at b w
 
     -- a step that finds no room
-    pub standing_short : k < rings sizes → (r : Gained) (s' l' b' w' : List ℕ) → Stepped options ring points fits at s l b w r s' l' b' w' → r ≡ NoPlace
+    pub standing_short : k < rings sizes → (r : Gained) (s' l' b' w' : List ℕ) → Stepped options ring points fits at s l b w r s' l' b' w' → r ≡ None
         → roomy T F S L B W options sizes coords ≡ false
     standing_short h r s' l' b' w' e short =
         step_lacks options sizes coords T F S L B W k h at s l b w st.stripes_at st.list_at st.bytes_at stripes_long list_long bytes_long work_same
         (step_short options ring points fits at s l b w r s' l' b' w' e short)
 
-    module _ (h : k < rings sizes) (r : Gained) (g : Gain) (s' l' b' w' : List ℕ) (e : Stepped options ring points fits at s l b w r s' l' b' w') (is : r ≡ Parts g) where
+    module _ (h : k < rings sizes) (r : Gained) (g : Gain) (s' l' b' w' : List ℕ) (e : Stepped options ring points fits at s l b w r s' l' b' w') (is : r ≡ Some g) where
       pub record Fitting : Type 0 where
         pub gain : g ≡ gain_in options ring points
         pub few : few_stripes options ring points ≡ true
@@ -196,9 +195,8 @@ module _ (options : BuildOptions) (sizes : List ℕ) (coords : List ℤ) (T : Li
         rows_next =
             rows
             ∙ over 0 (length T) k 10 (row_at options sizes coords) t (take 10 (row_numbers (segments points) options at g)) (λ j. refl)
-            (st.rows ∙ pad_is (length T) (rows_to options sizes coords k))
+            st.rows
             (take_all 10 (row_numbers (segments points) options at g) (omega arith) ∙ row_is) (omega arith)
-            ∙ sym (pad_is (length T) (rows_to options sizes coords (k + 1)))
 
         spans_long : length f ≡ length F
         spans_long =

@@ -10,7 +10,7 @@ use lib.Seq.{get_or-append-add}
 use lib.IntN.{ℤ}
 use lib.Dec.{eqb}
 use lib.Ieee.{Float}
-use Rattle.room.specs.Room.{pad}
+use Rattle.room.specs.Room.{padded, pad}
 use Rattle.room.proofs.Cases.{lt_or}
 use Rattle.rings.specs.Ring.{wide, segments}
 use Rattle.outline_check.specs.Outline.{rings, size_at, ring_of}
@@ -66,7 +66,7 @@ module _ (options : BuildOptions) (sizes : List ℕ) (coords : List ℤ) (room k
   table = pad room (rows_to options sizes coords (rings sizes))
 
   number_is : (i : ℕ) → i < 10 → number table k i ≡ get_or (row_at options sizes coords k) i 0
-  unfolding pad
+  unfolding padded
   number_is i l =
       get_or-append (rows_to options sizes coords (rings sizes)) _ 0 (10 * k + i) (omega (arith, turn_like (row_at options sizes coords) 10 (rings sizes) (λ j. refl)))
       ∙ row_get (row_at options sizes coords) (λ j. refl) k i (rings sizes) h l

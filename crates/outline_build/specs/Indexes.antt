@@ -1,17 +1,15 @@
 -- The indexes of all rings of an outline: what building answers, and what it leaves in the lent rooms.
-use Rattle.std.specs.Prelude.{ℕ, List, Bool, cond, ◌&&◌, leb, length, replicate, ℤ, Float}
+use Rattle.std.specs.Prelude.{Result, Ok, Err, ℕ, List, Bool, cond, ◌&&◌, leb, length, replicate, ℤ, Float}
+use Rattle.answers.specs.declared.Refusal.{Refusal}
 use Rattle.answers.specs.declared.Refusal.TheVariants.{NoRoom}
 use Rattle.room.specs.Room.{pad}
-use Rattle.rings.specs.declared.Checked.{Checked}
-use Rattle.rings.specs.declared.Checked.TheVariants.{Sound, Faulty}
+use Rattle.rings.specs.Checks.{Checked}
 use Rattle.outline_check.specs.Outline.{rings, size_at, ring_of}
 use Rattle.outline_check.specs.Rules.{shape_checked}
 use Rattle.outline_index.specs.declared.BuildOptions.{BuildOptions}
 use Rattle.outline_index.specs.Pools.{in_turn, pad_with, every}
 use Rattle.outline_index.specs.Parts.{no_height, stripes_part, list_part, bytes_part, span_part, row_of, few_stripes, enough_work}
 use Rattle.rings.specs.Ring.{wide}
-use Rattle.outline_build.specs.declared.Built.{Built}
-use Rattle.outline_build.specs.declared.Built.TheVariants.{Indexed, Unbuilt}
 
 module _ (options : BuildOptions) (sizes : List ℕ) (coords : List ℤ) where
   -- the parts of rings 0 to k - 1, in ring order
@@ -37,6 +35,10 @@ module _ (options : BuildOptions) (sizes : List ℕ) (coords : List ℤ) where
   -- what ring k calls for, beside room for its parts
   abbrev pub calls : List ℕ → ℕ → Bool
   calls work k = few_stripes options (wide (ring_of sizes coords k)) (size_at sizes k) && enough_work options (wide (ring_of sizes coords k)) (size_at sizes k) work
+
+-- what building answers: how many rings there are, or a refusal
+abbrev pub Built : Type 0
+Built = Result ℕ Refusal
 
 -- the answer, and the table, spans, stripes, list, bytes and work room
 abbrev pub Outcome : Type 0
@@ -73,7 +75,7 @@ module _ (table : List ℕ) (spans : List Float) (stripes list bytes work : List
     unfoldable pub indexed : Outcome
     indexed =
         cond roomy (
-          Indexed (rings sizes),
+          Ok (rings sizes),
           pad (length table) (rows_to options sizes coords (rings sizes)),
           pad_with no_height (length spans) (spans_to options sizes coords (rings sizes)),
           pad (length stripes) (stripes_to options sizes coords (rings sizes)),
@@ -81,12 +83,12 @@ module _ (table : List ℕ) (spans : List Float) (stripes list bytes work : List
           pad (length bytes) (bytes_to options sizes coords (rings sizes)),
           replicate (length work) 0,
         )
-        (zeroed (Unbuilt NoRoom))
+        (zeroed (Err NoRoom))
 
   -- checks 1 to 4 come first
   abbrev pub when_shaped : Checked → Outcome → Outcome
-  when_shaped Sound later = later
-  when_shaped (Faulty why) later = untouched (Unbuilt why)
+  when_shaped (Ok _) later = later
+  when_shaped (Err why) later = untouched (Err why)
 
 unfoldable pub indexes_built : List ℕ → List ℤ → BuildOptions → List ℕ → List Float → List ℕ → List ℕ → List ℕ → List ℕ → Outcome
 indexes_built sizes coords options table spans stripes list bytes work =

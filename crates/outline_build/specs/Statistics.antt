@@ -1,19 +1,21 @@
 -- Statistics of a ring's build, as its row of the table tells them. The source's `RingBuildStats`.
-use Rattle.std.specs.Prelude.{ℕ, ◌/◌, ◌%◌, List, Bool, true, false, eqb, Float}
+use Rattle.std.specs.Prelude.{Option, Some, None, ℕ, ◌/◌, ◌%◌, List, Bool, true, false, eqb, Float}
 use Rattle.rings.specs.Ring.{segments}
 use Rattle.stripes_build.specs.declared.StripesStats.{StripesStats}
 use Rattle.stripes_build.specs.Build.{stats_of}
 use Rattle.outline_table.specs.Row.{number, segments_place, under_place, kinds_place, stripes_place, entries_place, fullest_place}
 use Rattle.outline_index.specs.declared.BuildOptions.{BuildOptions}
 use Rattle.outline_index.specs.Parts.{has_stripes, has_tree, says_under}
-use Rattle.outline_build.specs.declared.YStripes.{YStripes}
-use Rattle.outline_build.specs.declared.YStripes.TheVariants.{SomeStripes, NoStripes}
 use Rattle.outline_build.specs.declared.RingBuildStats.{RingBuildStats}
+
+-- what a ring's stripes hold, where it has them
+abbrev pub YStripes : Type 0
+YStripes = Option StripesStats
 
 -- what is told of a ring's stripes, where it has them
 abbrev pub told_by : Bool → StripesStats → YStripes
-told_by true stats = SomeStripes stats
-told_by false stats = NoStripes
+told_by true stats = Some stats
+told_by false stats = None
 
 module _ (table : List ℕ) (k : ℕ) where
   abbrev pub told_stripes : Bool

@@ -4,6 +4,9 @@ use mathlib.Core.Path.{◌≡◌, refl, sym, ap, ◌∙◌}
 use mathlib.Core.List.{List}
 use native.Mathlib.Omega.{arith}
 use native.Mathlib.Numerals.{add-one}
+use Rattle.std.specs.Prelude.{sum}
+use Rattle.std.proofs.lemmas.List.Sums.{sum_by_more}
+use Rattle.std.proofs.Math.Seq.{take-length}
 use lib.ListN.{length, take, drop, length-take, length-drop}
 use lib.IntN.{ℤ}
 use Rattle.outline_check.specs.Outline.{rings, size_at, start_of, ring_of}
@@ -16,6 +19,14 @@ start_none sizes = refl
 pub start_more : (sizes : List ℕ) (k : ℕ) → start_of sizes (k + 1) ≡ start_of sizes k + size_at sizes k
 unfolding start_of
 start_more sizes k = rw add-one
+
+-- the sum of the first k sizes
+start_sum : (sizes : List ℕ) (k : ℕ) → k ≤ length sizes → sum (take k sizes) ≡ start_of sizes k
+start_sum sizes zero h = sym (start_none sizes)
+start_sum sizes (suc k) h = rw (← add-one k) (sum_by_more (λ (n : ℕ). n) sizes k 0 h ∙ ap (λ (n : ℕ). n + size_at sizes k) (start_sum sizes k (omega arith)) ∙ sym (start_more sizes k))
+
+pub start_all : (sizes : List ℕ) → sum sizes ≡ start_of sizes (rings sizes)
+start_all sizes = rw take-length at (start_sum sizes (length sizes) (omega arith))
 
 start_add : (sizes : List ℕ) (k n : ℕ) → start_of sizes k ≤ start_of sizes (k + n)
 start_add sizes k zero = let e : k + 0 ≡ k = omega arith in rw e (omega arith)

@@ -1,13 +1,11 @@
 -- 01, "What a call says when it says no": rules 1 to 5 on an outline.
-use Rattle.std.specs.Prelude.{ℕ, zero, suc, ◌+◌, ◌*◌, List, Bool, true, not, ◌&&◌, ltb, eqb, length, ℤ, Float}
+use Rattle.std.specs.Prelude.{Ok, ℕ, zero, suc, ◌+◌, ◌*◌, List, Bool, true, not, ◌&&◌, ltb, eqb, length, ℤ, Float}
 use Rattle.std.specs.Float.{binary64}
 use Rattle.std.specs.Float.Ieee.{of_bits, lt}
 use Rattle.std.specs.Float.Ieee.Scale.{finite}
 use Rattle.answers.specs.declared.Refusal.{Refusal}
 use Rattle.answers.specs.declared.Refusal.TheVariants.{TooFew, TooMany, SizesDiffer, NotClosed, BadScale}
-use Rattle.rings.specs.declared.Checked.{Checked}
-use Rattle.rings.specs.declared.Checked.TheVariants.{Sound}
-use Rattle.rings.specs.Checks.{min_points, max_points, closed, holding, then_checked}
+use Rattle.rings.specs.Checks.{Checked, min_points, max_points, closed, holding, then_checked}
 use Rattle.outline_check.specs.Outline.{rings, size_at, start_of, ring_of}
 
 -- "1 to 64 rings"
@@ -48,7 +46,7 @@ shape_with fits sizes coords =
     (holding (not (ltb max_rings (rings sizes))) (TooMany max_rings)
     (for_each (not_over sizes) TooMany (rings sizes)
     (holding (fits && add_up sizes coords) SizesDiffer
-    (for_each (shut sizes coords) NotClosed (rings sizes) Sound)))))
+    (for_each (shut sizes coords) NotClosed (rings sizes) (Ok tt))))))
 
 -- "scale finite, and above 0"
 abbrev pub sound_scale : Float → Bool
@@ -56,7 +54,7 @@ sound_scale scale = finite scale && lt (of_bits binary64 0) scale
 
 -- rule 5
 unfoldable pub scale_checked : Float → Checked
-scale_checked scale = holding (sound_scale scale) BadScale Sound
+scale_checked scale = holding (sound_scale scale) BadScale (Ok tt)
 
 -- rules 1 to 5; whatever the mode, any coordinate is taken
 unfoldable pub outline_with : Bool → Float → List ℕ → List ℤ → Checked

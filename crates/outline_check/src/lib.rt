@@ -2,7 +2,6 @@
 #![tactic(auto)]
 
 ghost use Rattle.std.specs.Prelude.{◌≡◌, ◌≤◌, length};
-ghost use Rattle.rings.specs.declared.Checked.TheVariants.{Sound};
 ghost use Rattle.answers.specs.declared.Refusal.TheVariants.{TooFew, TooMany, NotClosed};
 ghost use Rattle.outline_check.specs.Outline.{rings, start_of, outline_of};
 ghost use Rattle.outline_check.specs.Rules.{for_each, enough, not_over, shut, shape_with, shape_checked, outline_with, outline_checked};
@@ -10,10 +9,10 @@ ghost use Rattle.outline_check.specs.Inner.Counted.{Counted, counts_checked};
 
 use answers::Refusal;
 use floats::is_finite;
-use rings::{Checked, is_closed};
+use rings::is_closed;
 
 // How a scaled query is asked: as floats, or rounded to whole numbers.
-#[derive(Clone, Copy)]
+#[derive(Clone, Copy, Debug, PartialEq, Eq)]
 pub enum RaycastMode {
     Float,
     Integer,
@@ -64,122 +63,104 @@ impl Outline {
     }
 }
 
-// Rule 1 by ring: a ring under 2 points.
-fn check_few(sizes: &[u32]) -> Checked
-    ensures { result ≡ for_each (enough sizes.now) TooFew (rings sizes.now) Sound }
-{
-    let mut k: usize = 0;
-    while k < sizes.len() {
-        if sizes[k] < Outline::MIN_POINTS {
-            return Checked::Faulty(Refusal::TooFew(k));
-        }
-        k += 1;
-    }
-    Checked::Sound
-}
-
-// Rule 2 by ring: a ring over 4,097 points.
-fn check_many(sizes: &[u32]) -> Checked
-    ensures { result ≡ for_each (not_over sizes.now) TooMany (rings sizes.now) Sound }
-{
-    let mut k: usize = 0;
-    while k < sizes.len() {
-        if Outline::MAX_POINTS < sizes[k] {
-            return Checked::Faulty(Refusal::TooMany(k));
-        }
-        k += 1;
-    }
-    Checked::Sound
-}
-
 // How many points all rings have, of which there are few enough that the sum fits.
 fn points_of(sizes: &[u32]) -> usize
     requires { length sizes.now ≤ 64 }
     ensures { result ≡ start_of sizes.now (rings sizes.now) }
 {
-    let mut sum: usize = 0;
-    let mut k: usize = 0;
-    while k < sizes.len() {
-        sum += sizes[k] as usize;
-        k += 1;
-    }
-    sum
+    sizes.iter().map(|points| *points as usize).sum()
 }
 
-// Rule 4, for callers that have asked rules 1 to 3.
-fn check_closed(sizes: &[u32], coords: &[i32]) -> Checked
-    requires { Counted sizes.now coords.now }
-    ensures { result ≡ for_each (shut sizes.now coords.now) NotClosed (rings sizes.now) Sound }
-{
-    let mut start: usize = 0;
-    let mut k: usize = 0;
-    while k < sizes.len() {
-        let points = sizes[k] as usize;
-        let end = start + 2 * points;
-        if !is_closed(&coords[start..end], points) {
-            return Checked::Faulty(Refusal::NotClosed(k));
+// The rings of an outline whose counts passed rules 1 to 3: the point count of each, and all their numbers, one ring after the other.
+#[derive(Clone, Copy)]
+pub struct Rings<'a> {
+    pub sizes: &'a [u32],
+    pub coords: &'a [i32],
+    pub ghost counted: { Counted sizes.now coords.now },
+}
+
+impl<'a> Rings<'a> {
+    // Rule 4.
+    fn check_closed(self) -> Result<(), Refusal>
+        ensures { result ≡ for_each (shut self.entry.sizes.now self.entry.coords.now) NotClosed (rings self.entry.sizes.now) (Ok tt) }
+    {
+        let mut start: usize = 0;
+        for (k, size) in self.sizes.iter().enumerate() {
+            let points = *size as usize;
+            let end = start + 2 * points;
+            if !is_closed(&self.coords[start..end], points) {
+                return Err(Refusal::NotClosed(k));
+            }
+            start = end;
         }
-        start = end;
-        k += 1;
+        Ok(())
     }
-    Checked::Sound
 }
 
 // Rules 1 and 2: the count of rings, and the count of points of each.
-fn check_counts(sizes: &[u32]) -> Checked
+fn check_counts(sizes: &[u32]) -> Result<(), Refusal>
     ensures { result ≡ counts_checked sizes.now }
 {
     if sizes.len() < Outline::MIN_RINGS {
-        return Checked::Faulty(Refusal::TooFew(0));
+        return Err(Refusal::TooFew(0));
     }
-    let few = check_few(sizes);
-    let Checked::Sound = few else {
-        return few;
-    };
+    if let Some(k) = sizes
+        .iter()
+        .position(|points| *points < Outline::MIN_POINTS)
+    {
+        return Err(Refusal::TooFew(k));
+    }
     if Outline::MAX_RINGS < sizes.len() {
-        return Checked::Faulty(Refusal::TooMany(Outline::MAX_RINGS));
+        return Err(Refusal::TooMany(Outline::MAX_RINGS));
     }
-    check_many(sizes)
+    if let Some(k) = sizes
+        .iter()
+        .position(|points| Outline::MAX_POINTS < *points)
+    {
+        return Err(Refusal::TooMany(k));
+    }
+    Ok(())
 }
 
 // Rules 1 to 4 for a call that is lent more beside the coordinates: rule 3 asks too that this fits, which the caller has found out.
-fn check_shape_with(fits: bool, sizes: &[u32], coords: &[i32]) -> Checked
+fn check_shape_with(fits: bool, sizes: &[u32], coords: &[i32]) -> Result<(), Refusal>
     ensures { result ≡ shape_with fits sizes.now coords.now }
 {
-    let counts = check_counts(sizes);
-    let Checked::Sound = counts else {
-        return counts;
-    };
+    check_counts(sizes)?;
     if !(fits & (2 * points_of(sizes) == coords.len())) {
-        return Checked::Faulty(Refusal::SizesDiffer);
+        return Err(Refusal::SizesDiffer);
     }
-    check_closed(sizes, coords)
+    let rings = Rings { sizes, coords };
+    rings.check_closed()
 }
 
 // Rules 1 to 5 for such a call.
-pub fn check_outline_with(fits: bool, outline: Outline, sizes: &[u32], coords: &[i32]) -> Checked
+#[tactic(auto, unfolding(crate::specs::Rules::outline_with, crate::specs::Rules::scale_checked))]
+pub fn check_outline_with(
+    fits: bool,
+    outline: Outline,
+    sizes: &[u32],
+    coords: &[i32],
+) -> Result<(), Refusal>
     ensures { result ≡ outline_with fits outline.scale sizes.now coords.now }
 {
-    let shape = check_shape_with(fits, sizes, coords);
-    let Checked::Sound = shape else {
-        return shape;
-    };
+    check_shape_with(fits, sizes, coords)?;
     let scale = outline.scale;
     if !(is_finite(scale) & (0.0 < scale)) {
-        return Checked::Faulty(Refusal::BadScale);
+        return Err(Refusal::BadScale);
     }
-    Checked::Sound
+    Ok(())
 }
 
 // Rules 1 to 4.
-pub fn check_shape(sizes: &[u32], coords: &[i32]) -> Checked
+pub fn check_shape(sizes: &[u32], coords: &[i32]) -> Result<(), Refusal>
     ensures { result ≡ shape_checked sizes.now coords.now }
 {
     check_shape_with(true, sizes, coords)
 }
 
 // Rules 1 to 5.
-pub fn check_outline(outline: Outline, sizes: &[u32], coords: &[i32]) -> Checked
+pub fn check_outline(outline: Outline, sizes: &[u32], coords: &[i32]) -> Result<(), Refusal>
     ensures { result ≡ outline_checked outline.scale sizes.now coords.now }
 {
     check_outline_with(true, outline, sizes, coords)

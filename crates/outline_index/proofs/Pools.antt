@@ -1,6 +1,6 @@
 -- Laws of parts one after the other in one room. Assumes nothing.
 use Prim.Native.Nat.{ℕ, zero, suc, ◌+◌, ◌-◌, ◌*◌, ◌≤◌, ◌<◌}
-use mathlib.Core.Path.{◌≡◌, refl, sym, ap, ap₂, ◌∙◌}
+use mathlib.Core.Path.{◌≡◌, sym, ap, ap₂, ◌∙◌}
 use mathlib.Core.List.{List, [], ◌++◌, append_assoc, append-nil}
 use mathlib.Core.Bool.{Bool, true}
 use mathlib.Core.Logic.{⊎_elim}
@@ -11,9 +11,8 @@ use lib.Seq.{take_all, take-append_seam, drop-append-add, drop-length, length-ta
 use lib.Dec.{leb}
 use borrow.Author.Tests.{le-leb, lt-leb}
 use borrow.Rule.Slice.PartMut.{put_mid, Post-is}
-use Rattle.room.specs.Room.{pad}
+use Rattle.room.specs.Room.{padded, pad}
 use Rattle.room.proofs.Cases.{lt_or}
-use Rattle.room.proofs.Fill.{filled}
 use Rattle.rings.proofs.Checks.{both}
 use Rattle.outline_index.specs.Pools.{in_turn, pad_with, every}
 use Rattle.outline_index.specs.Inner.Step.{ZeroFrom, behind}
@@ -53,7 +52,7 @@ module _ {A : Type 0} (z : A) where
   -- a part in what is left of a room
   pub pad_behind : (at : ℕ) (xs part : List A) → at ≤ length xs
       → take at xs ++ pad_with z (length (drop at xs)) part ≡ pad_with z (length xs) (take at xs ++ part)
-  unfolding pad_with
+  unfolding padded
   pad_behind at xs part h =
       let e : length (drop at xs) - length part ≡ length xs - length (take at xs ++ part) =
       omega (arith, length-drop at xs, length-append (take at xs) part, length-take-le at xs h) in
@@ -67,7 +66,7 @@ module _ {A : Type 0} (z : A) where
   -- a part written over the zeros behind what is used
   pub pad_over : (n : ℕ) (xs part : List A) → length xs + length part ≤ n
       → take (length xs) (pad_with z n xs) ++ part ++ drop (length xs + length part) (pad_with z n xs) ≡ pad_with z n (xs ++ part)
-  unfolding pad_with
+  unfolding padded
   pad_over n xs part h =
       let e : n - length (xs ++ part) ≡ n - length xs - length part = omega (arith, length-append xs part) in
       rw e
@@ -75,29 +74,18 @@ module _ {A : Type 0} (z : A) where
       (drop-append-add xs (replicate (n - length xs) z) (length part) ∙ zeros_left (length part) (n - length xs)))
 
   pub pad_length : (n : ℕ) (xs : List A) → length xs ≤ n → length (pad_with z n xs) ≡ n
-  unfolding pad_with
+  unfolding padded
   pad_length n xs h = omega (arith, length-append xs (replicate (n - length xs) z), length-replicate (n - length xs) z)
 
   pub pad_none : (n : ℕ) → pad_with z n [] ≡ replicate n z
-  unfolding pad_with
+  unfolding padded
   pad_none n = rw sub-zero
 
-  -- the loop that stores zeros, from the first place on
-  pub fill_all : (l : List A) → filled z l 0 ≡ replicate (length l) z
-  unfolding filled
-  fill_all l = rw sub-zero
-
   pub pad_front : (n : ℕ) (xs : List A) → take (length xs) (pad_with z n xs) ≡ xs
-  unfolding pad_with
+  unfolding padded
   pad_front n xs = take-append_seam xs (replicate (n - length xs) z)
 
--- room of numbers
-pub pad_is : (n : ℕ) (xs : List ℕ) → pad n xs ≡ pad_with 0 n xs
-unfolding pad pad_with
-pad_is n xs = refl
-
 pub behind_rest : (at : ℕ) (xs part : List ℕ) → at ≤ length xs → take at xs ++ pad (length (drop at xs)) part ≡ behind at xs part
-unfolding pad pad_with
 behind_rest at xs part h = pad_behind 0 at xs part h
 
 module _ (at : ℕ) (xs : List ℕ) (zero : ZeroFrom at xs) where
@@ -106,15 +94,15 @@ module _ (at : ℕ) (xs : List ℕ) (zero : ZeroFrom at xs) where
 
   pub rest_zero : take at xs ++ replicate (length (drop at xs)) 0 ≡ xs
   rest_zero =
-      ap (λ (r : List ℕ). take at xs ++ r) (sym (pad_none 0 (length (drop at xs))) ∙ sym (pad_is _ [])) ∙ behind_rest at xs [] zero.0 ∙ behind_none
+      ap (λ (r : List ℕ). take at xs ++ r) (sym (pad_none 0 (length (drop at xs)))) ∙ behind_rest at xs [] zero.0 ∙ behind_none
 
 -- a room of which P is used, up to a place
 module _ (n at : ℕ) (P xs : List ℕ) (is : xs ≡ pad n P) (end : at ≡ length P) (fits : at ≤ n) where
   pub used_length : length xs ≡ n
-  used_length = ap length (is ∙ pad_is n P) ∙ pad_length 0 n P (omega arith)
+  used_length = ap length is ∙ pad_length 0 n P (omega arith)
 
   pub used_front : take at xs ≡ P
-  used_front = ap₂ take end (is ∙ pad_is n P) ∙ pad_front 0 n P
+  used_front = ap₂ take end is ∙ pad_front 0 n P
 
   pub used_zero : ZeroFrom at xs
   used_zero = (omega (arith, used_length), is ∙ sym (ap₂ pad used_length used_front))

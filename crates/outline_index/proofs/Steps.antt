@@ -1,4 +1,5 @@
 -- One ring's step, by what the two builds do in what is left of the rooms. Assumes nothing.
+use Rattle.std.specs.Prelude.{Ok, Err, Some, None}
 use Prim.Native.Nat.{ℕ, ◌+◌, ◌-◌, ◌*◌}
 use mathlib.Core.Path.{◌≡◌, refl, sym, ap, ap₂, ◌∙◌}
 use mathlib.Core.List.{List, [], ◌++◌}
@@ -9,30 +10,26 @@ use lib.Dec.{leb}
 use borrow.Author.Tests.{le-leb}
 use borrow.Rule.Slice.PartMut.{put_mid}
 use lib.Ieee.{Float}
+use Rattle.answers.specs.declared.Refusal.{Refusal}
 use Rattle.answers.specs.declared.Refusal.TheVariants.{NoRoom}
 use Rattle.room.specs.Room.{pad}
-use Rattle.rings.specs.declared.Checked.{Checked}
-use Rattle.rings.specs.declared.Checked.TheVariants.{Sound}
+use Rattle.rings.specs.Checks.{Checked}
 use Rattle.rings.specs.Ring.{segments}
 use Rattle.stripes_count.specs.Count.{stripe_count}
 use Rattle.stripes_index.specs.Index.{least_y, height_y, list_of, part_of}
 use Rattle.stripes_index.proofs.Pairs.{pairs_length}
-use Rattle.stripes_build.specs.declared.StripesBuilt.{StripesBuilt}
-use Rattle.stripes_build.specs.declared.StripesBuilt.TheVariants.{Striped, Unstriped, StripesRefused}
+use Rattle.stripes_build.specs.Build.{StripesBuilt}
 use Rattle.stripes_build.specs.Build as striping
 use Rattle.stripes_build.proofs.Building.{built_sound, from_reached}
 use Rattle.tree.specs.Tree.{work_numbers}
-use Rattle.tree_build.specs.declared.TreeBuilt.{TreeBuilt}
-use Rattle.tree_build.specs.declared.TreeBuilt.TheVariants.{Packed, Unpacked, TreeRefused}
+use Rattle.tree_build.specs.Build.{TreeBuilt}
 use Rattle.tree_build.specs.Build as packing
 use Rattle.tree_build.proofs.Building.{built_sound as built-sound-tree, from_reached as from-reached-tree}
 use Rattle.outline_index.specs.declared.BuildOptions.{BuildOptions}
 use Rattle.outline_index.specs.declared.Places.{Places}
 use Rattle.outline_index.specs.declared.Gain.{Gain}
-use Rattle.outline_index.specs.declared.Gained.{Gained}
-use Rattle.outline_index.specs.declared.Gained.TheVariants.{Parts, NoPlace}
+use Rattle.outline_index.specs.Inner.Step.{Gained, ZeroFrom, behind, gained, stripes_fit, stripes_answer, stripes_put, tree_fits, tree_answer, tree_put, gain_in, Stepped}
 use Rattle.outline_index.specs.Parts.{has_stripes, has_tree, ring_stripes, ring_list, stripes_part, list_part, bytes_part, least_in, height_in, stripes_in, entries_in, fullest_in, few_stripes, enough_work}
-use Rattle.outline_index.specs.Inner.Step.{ZeroFrom, behind, gained, stripes_fit, stripes_answer, stripes_put, tree_fits, tree_answer, tree_put, gain_in, Stepped}
 use Rattle.outline_index.proofs.Pools.{rest_is, rest_back, behind_rest, behind_none, rest_zero, leb_shift}
 
 -- an answer and two rooms of which the rest was lent
@@ -42,11 +39,11 @@ module _ {A : Type 0} (a b : ℕ) (S L : List ℕ) where
 
 module _ (options : BuildOptions) (ring : ℕ → Float) (points : ℕ) (at : Places) where
   module _ (S L : List ℕ) (zs : ZeroFrom at.stripes S) (zl : ZeroFrom at.list L) where
-    pub stripes_none : has_stripes options (segments points) ≡ false → stripes_put options ring points at S L ≡ (Unstriped, S, L)
+    pub stripes_none : has_stripes options (segments points) ≡ false → stripes_put options ring points at S L ≡ (Ok None, S, L)
     unfolding stripes_put stripes_part list_part few_stripes
     stripes_none e =
         rw (e, le-leb (at.stripes + 0) (length S) (omega arith), le-leb (at.list + 0) (length L) (omega arith))
-        (ap₂ (λ (s l : List ℕ). (Unstriped, s, l)) (behind_none at.stripes S zs) (behind_none at.list L zl))
+        (ap₂ (λ (s l : List ℕ). (Ok None, s, l)) (behind_none at.stripes S zs) (behind_none at.list L zl))
 
     -- the rest of the rooms is roomy just where the whole is
     rest_fits : (striping.roomy ring (segments points) (drop at.stripes S) (drop at.list L))
@@ -71,25 +68,25 @@ module _ (options : BuildOptions) (ring : ℕ → Float) (points : ℕ) (at : Pl
 
         go : (t : Bool)
             → cond t (
-              Striped (least_y ring n) (height_y ring n) (striping.stats_of ring n),
+              Ok (Some (record { least = least_y ring n; height = height_y ring n; stats = striping.stats_of ring n })),
               behind at.stripes S (ring_stripes ring n),
               behind at.list L (ring_list ring n),
             )
-            (StripesRefused NoRoom, S, L)
+            (Err NoRoom, S, L)
             ≡ put at.stripes at.list S L
             (cond t (
-              Striped (least_y ring n) (height_y ring n) (striping.stats_of ring n),
+              Ok (Some (record { least = least_y ring n; height = height_y ring n; stats = striping.stats_of ring n })),
               pad (length (drop at.stripes S)) (ring_stripes ring n),
               pad (length (drop at.list L)) (ring_list ring n),
             )
-            (striping.zeroed (StripesRefused NoRoom) (drop at.stripes S) (drop at.list L)))
+            (striping.zeroed (Err NoRoom) (drop at.stripes S) (drop at.list L)))
         go true =
-            ap₂ (λ (s l : List ℕ). (Striped (least_y ring n) (height_y ring n) (striping.stats_of ring n), s, l))
+            ap₂ (λ (s l : List ℕ). (Ok (Some (record { least = least_y ring n; height = height_y ring n; stats = striping.stats_of ring n })), s, l))
             (sym (behind_rest at.stripes S (ring_stripes ring n) zs.0)) (sym (behind_rest at.list L (ring_list ring n) zl.0))
-        go false = ap₂ (λ (s l : List ℕ). (StripesRefused NoRoom, s, l)) (sym (rest_zero at.stripes S zs)) (sym (rest_zero at.list L zl))
+        go false = ap₂ (λ (s l : List ℕ). (Err NoRoom, s, l)) (sym (rest_zero at.stripes S zs)) (sym (rest_zero at.list L zl))
 
     -- built in the rests, which come back
-    pub stripes_put_lem : (checked : Checked) → has_stripes options (segments points) ≡ true → checked ≡ Sound → (r : StripesBuilt) (s l : List ℕ)
+    pub stripes_put_lem : (checked : Checked) → has_stripes options (segments points) ≡ true → checked ≡ Ok tt → (r : StripesBuilt) (s l : List ℕ)
         → striping.stripes_built_by checked ring points 0 (take (length S - at.stripes) (drop at.stripes S)) (take (length L - at.list) (drop at.list L)) ≡ (r, s, l)
         → stripes_put options ring points at S L ≡ (r, put_mid at.stripes (length S - at.stripes) S s, put_mid at.list (length L - at.list) L l)
     stripes_put_lem checked has sound r s l e =
@@ -102,10 +99,10 @@ module _ (options : BuildOptions) (ring : ℕ → Float) (points : ℕ) (at : Pl
         ∙ ap₂ (λ (x y : List ℕ). (r, x, y)) (sym (rest_back at.stripes S s zs.0)) (sym (rest_back at.list L l zl.0))
 
   module _ (B W : List ℕ) (zb : ZeroFrom at.bytes B) (zw : W ≡ replicate (length W) 0) where
-    pub tree_none : has_tree options (segments points) ≡ false → tree_put options ring points at B W ≡ (Unpacked, B, W)
+    pub tree_none : has_tree options (segments points) ≡ false → tree_put options ring points at B W ≡ (Ok None, B, W)
     unfolding tree_put bytes_part enough_work
     tree_none e =
-        rw (e, le-leb (at.bytes + 0) (length B) (omega arith)) (ap (λ (b : List ℕ). (Unpacked, b, W)) (behind_none at.bytes B zb))
+        rw (e, le-leb (at.bytes + 0) (length B) (omega arith)) (ap (λ (b : List ℕ). (Ok None, b, W)) (behind_none at.bytes B zb))
 
     tree_fits_lem : packing.roomy ring points (drop at.bytes B) W
         ≡ (leb (work_numbers ring points) (length W) && leb (at.bytes + length (packing.tree_bytes ring points)) (length B))
@@ -126,14 +123,14 @@ module _ (options : BuildOptions) (ring : ℕ → Float) (points : ℕ) (at : Pl
         bytes = packing.tree_bytes ring points
 
         go : (t : Bool)
-            → cond t (Packed (length bytes), behind at.bytes B bytes, W) (TreeRefused NoRoom, B, W)
+            → cond t (Ok (Some (length bytes)), behind at.bytes B bytes, W) (Err NoRoom, B, W)
             ≡ put_one
-            (cond t (Packed (length bytes), pad (length (drop at.bytes B)) bytes, replicate (length W) 0)
-            (packing.zeroed (TreeRefused NoRoom) (drop at.bytes B) W))
-        go true = ap₂ (λ (b w : List ℕ). (Packed (length bytes), b, w)) (sym (behind_rest at.bytes B bytes zb.0)) zw
-        go false = ap₂ (λ (b w : List ℕ). (TreeRefused NoRoom, b, w)) (sym (rest_zero at.bytes B zb)) zw
+            (cond t (Ok (Some (length bytes)), pad (length (drop at.bytes B)) bytes, replicate (length W) 0)
+            (packing.zeroed (Err NoRoom) (drop at.bytes B) W))
+        go true = ap₂ (λ (b w : List ℕ). (Ok (Some (length bytes)), b, w)) (sym (behind_rest at.bytes B bytes zb.0)) zw
+        go false = ap₂ (λ (b w : List ℕ). (Err NoRoom, b, w)) (sym (rest_zero at.bytes B zb)) zw
 
-    pub tree_put_lem : (checked : Checked) → has_tree options (segments points) ≡ true → checked ≡ Sound → (r : TreeBuilt) (b w : List ℕ)
+    pub tree_put_lem : (checked : Checked) → has_tree options (segments points) ≡ true → checked ≡ Ok tt → (r : TreeBuilt) (b w : List ℕ)
         → packing.tree_built_by checked ring points 0 (take (length B - at.bytes) (drop at.bytes B)) W ≡ (r, b, w)
         → tree_put options ring points at B W ≡ (r, put_mid at.bytes (length B - at.bytes) B b, w)
     tree_put_lem checked has sound r b w e =
@@ -155,21 +152,21 @@ module _ (options : BuildOptions) (ring : ℕ → Float) (points : ℕ) (at : Pl
       go false p = rw p (omega arith)
 
   -- what the two answers come to
-  gains : gained (stripes_answer options ring points) (tree_answer options ring points) ≡ Parts (gain_in options ring points)
+  gains : gained (stripes_answer options ring points) (tree_answer options ring points) ≡ Some (gain_in options ring points)
   unfolding list_part bytes_part least_in height_in stripes_in entries_in fullest_in
   gains = go (has_stripes options (segments points)) (has_tree options (segments points)) refl refl
     where
       go : (h t : Bool) → has_stripes options (segments points) ≡ h → has_tree options (segments points) ≡ t
-          → gained (stripes_answer options ring points) (tree_answer options ring points) ≡ Parts (gain_in options ring points)
+          → gained (stripes_answer options ring points) (tree_answer options ring points) ≡ Some (gain_in options ring points)
       go true true p q = rw (p, q)
       go true false p q = rw (p, q)
       go false true p q = rw (p, q)
       go false false p q = rw (p, q)
 
-  no_tree : gained (stripes_answer options ring points) (TreeRefused NoRoom) ≡ NoPlace
+  no_tree : gained (stripes_answer options ring points) (Err NoRoom) ≡ None
   no_tree = go (has_stripes options (segments points)) refl
     where
-      go : (h : Bool) → has_stripes options (segments points) ≡ h → gained (stripes_answer options ring points) (TreeRefused NoRoom) ≡ NoPlace
+      go : (h : Bool) → has_stripes options (segments points) ≡ h → gained (stripes_answer options ring points) (Err NoRoom) ≡ None
       go true p = rw p
       go false p = rw p
 
@@ -186,10 +183,10 @@ module _ (options : BuildOptions) (ring : ℕ → Float) (points : ℕ) (at : Pl
               behind at.stripes S (stripes_part options ring points),
               behind at.list L (list_part options ring points),
             )
-            (StripesRefused NoRoom, S, L))
+            (Err NoRoom, S, L))
             (r₁, s, l)
             → ◌≡◌ {A = packing.Outcome}
-            (cond y (tree_answer options ring points, behind at.bytes B (bytes_part options ring points), W) (TreeRefused NoRoom, B, W))
+            (cond y (tree_answer options ring points, behind at.bytes B (bytes_part options ring points), W) (Err NoRoom, B, W))
             (r₂, b, w)
             → Stepped options ring points (x && y) at S L B W r s l b w
         go true true p q = (
@@ -202,9 +199,57 @@ module _ (options : BuildOptions) (ring : ℕ → Float) (points : ℕ) (at : Pl
         go true false p q = e ∙ sym (ap₂ (λ (o : striping.Outcome) (u : packing.Outcome). gained o.0 u.0) p q) ∙ no_tree
         go false y p q = e ∙ sym (ap (λ (o : striping.Outcome). gained o.0 r₂) p)
 
+  -- a build that refuses says that its room is short
+  stripes_sure : (why : Refusal) → stripes_answer options ring points ≡ Err why → ⊥
+  stripes_sure why = go (has_stripes options (segments points)) refl
+    where
+      go : (h : Bool) → has_stripes options (segments points) ≡ h → stripes_answer options ring points ≡ Err why → ⊥
+      go true p = rw p (λ q. cc)
+      go false p = rw p (λ q. cc)
+
+  tree_sure : (why : Refusal) → tree_answer options ring points ≡ Err why → ⊥
+  tree_sure why = go (has_tree options (segments points)) refl
+    where
+      go : (h : Bool) → has_tree options (segments points) ≡ h → tree_answer options ring points ≡ Err why → ⊥
+      go true p = rw p (λ q. cc)
+      go false p = rw p (λ q. cc)
+
+  module _ (S L B W : List ℕ) (why : Refusal) (s l b w : List ℕ) (r : Gained) where
+    pub stripes_short : stripes_put options ring points at S L ≡ (Err why, s, l) → r ≡ None
+        → Stepped options ring points (stripes_fit options ring points at S L && tree_fits options ring points at B W) at S L B W r s l b w
+    unfolding stripes_put Stepped
+    stripes_short e n = go (stripes_fit options ring points at S L) e
+      where
+        go : (x : Bool)
+            → ◌≡◌ {A = striping.Outcome}
+            (cond x (
+              stripes_answer options ring points,
+              behind at.stripes S (stripes_part options ring points),
+              behind at.list L (list_part options ring points),
+            )
+            (Err NoRoom, S, L))
+            (Err why, s, l)
+            → Stepped options ring points (x && tree_fits options ring points at B W) at S L B W r s l b w
+        go true p = absurd (stripes_sure why (ap (λ (o : striping.Outcome). o.0) p))
+        go false p = n
+
+    pub tree_short : tree_put options ring points at B W ≡ (Err why, b, w) → r ≡ None
+        → Stepped options ring points (stripes_fit options ring points at S L && tree_fits options ring points at B W) at S L B W r s l b w
+    unfolding tree_put Stepped
+    tree_short e n = go (stripes_fit options ring points at S L) (tree_fits options ring points at B W) e
+      where
+        go : (x y : Bool)
+            → ◌≡◌ {A = packing.Outcome}
+            (cond y (tree_answer options ring points, behind at.bytes B (bytes_part options ring points), W) (Err NoRoom, B, W))
+            (Err why, b, w)
+            → Stepped options ring points (x && y) at S L B W r s l b w
+        go x true p = absurd (tree_sure why (ap (λ (u : packing.Outcome). u.0) p))
+        go true false p = n
+        go false false p = n
+
 -- ---- what the crate above learns from a step
 module _ (options : BuildOptions) (ring : ℕ → Float) (points : ℕ) (x : Bool) (at : Places) (S L B W : List ℕ) (r : Gained) (s l b w : List ℕ) where
-  pub step_done : (g : Gain) → Stepped options ring points x at S L B W r s l b w → r ≡ Parts g
+  pub step_done : (g : Gain) → Stepped options ring points x at S L B W r s l b w → r ≡ Some g
       → (x ≡ true) × (g ≡ gain_in options ring points) × (s ≡ behind at.stripes S (stripes_part options ring points))
       × (l ≡ behind at.list L (list_part options ring points)) × (b ≡ behind at.bytes B (bytes_part options ring points)) × (w ≡ W)
   unfolding Stepped
@@ -215,20 +260,20 @@ module _ (options : BuildOptions) (ring : ℕ → Float) (points : ℕ) (x : Boo
           × (l ≡ behind at.list L (list_part options ring points)) × (b ≡ behind at.bytes B (bytes_part options ring points)) × (w ≡ W)
       go true p = (refl, same (gain_in options ring points) p.0, p.1, p.2, p.3, p.4)
         where
-          same : (g' : Gain) → r ≡ Parts g' → g ≡ g'
+          same : (g' : Gain) → r ≡ Some g' → g ≡ g'
           same g' q = cc
       go false p = absurd (never p)
         where
-          never : r ≡ NoPlace → ⊥
+          never : r ≡ None → ⊥
           never q = let z : ◌≡◌ {A = ℕ} 0 1 = cc in omega arith
 
-  pub step_short : Stepped options ring points x at S L B W r s l b w → r ≡ NoPlace → x ≡ false
+  pub step_short : Stepped options ring points x at S L B W r s l b w → r ≡ None → x ≡ false
   unfolding Stepped
   step_short e h = go x e
     where
       go : (y : Bool) → Stepped options ring points y at S L B W r s l b w → y ≡ false
       go true p = absurd (never (gain_in options ring points) p.0)
         where
-          never : (g : Gain) → r ≡ Parts g → ⊥
+          never : (g : Gain) → r ≡ Some g → ⊥
           never g q = let z : ◌≡◌ {A = ℕ} 0 1 = cc in omega arith
       go false p = refl

@@ -2,20 +2,20 @@
 // functions that are not methods are for the crate above, which has checked the rings.
 #![tactic(auto)]
 
-ghost use Rattle.std.specs.Prelude.{◌≡◌, ◌&&◌, [], ◌∷◌, ◌+◌, ◌*◌, ◌≤◌, length, replicate};
+ghost use Rattle.std.specs.Prelude.{Ok, ◌≡◌, ◌&&◌, [], ◌∷◌, ◌+◌, ◌*◌, ◌≤◌, length, replicate};
 ghost use Rattle.rings.specs.Ring.{wide};
 ghost use Rattle.std.proofs.Math.Seq.{paste};
 ghost use Rattle.room.specs.Numbers.{bit};
 ghost use Rattle.room.specs.Room.{write};
-ghost use Rattle.rings.specs.declared.Checked.TheVariants.{Sound};
 ghost use Rattle.rings.specs.Checks.{ring_checked};
 ghost use Rattle.outline_index.specs.Options.{default_options};
 ghost use Rattle.outline_index.specs.Parts.{no_height, has_stripes, has_tree, says_under};
 ghost use Rattle.outline_index.specs.Inner.Step.{ZeroFrom, with_tree, gained, row_numbers, stripes_fit, stripes_put, tree_fits, tree_put, Stepped};
 
+use answers::Refusal;
 use outline_table::Row;
-use stripes_build::{StripesBuilt, build_stripes};
-use tree_build::{TreeBuilt, build_tree};
+use stripes_build::{Stripes, build_stripes};
+use tree_build::build_tree;
 
 // Which indexes are asked for, and how many segments a ring needs to get them.
 #[derive(Clone, Copy)]
@@ -70,7 +70,8 @@ pub struct Places {
 }
 
 // What one ring got: 1 for stripes and 2 for a tree, the stripes' least y and height, and how many
-// stripes, entries, entries in the fullest stripe and bytes.
+// stripes, entries, entries in the fullest stripe and bytes. They are the numbers of the ring's row as C reads the table, so
+// `kinds` is a number and no enum, and a ring without stripes has zeros there.
 #[derive(Clone, Copy)]
 pub struct Gain {
     pub kinds: usize,
@@ -82,120 +83,85 @@ pub struct Gain {
     pub bytes: usize,
 }
 
-// The same, or that the room is short.
+// One ring's step: the ring, which passed the checks, what is asked for, and where its parts start.
 #[derive(Clone, Copy)]
-pub enum Gained {
-    Parts(Gain),
-    NoPlace,
-}
-
-// Zeros everywhere.
-pub fn zero_fill_f64(out: &mut [f64])
-    ensures { out.new ≡ replicate (length out.old) no_height }
-{
-    let mut i: usize = 0;
-    while i < out.len() {
-        out[i] = 0.0;
-        i += 1;
-    }
-}
-
-// The stripes of a ring, behind those of the rings before it.
-fn ring_stripes(
-    ring: &[i32],
+struct Step<'a> {
+    ring: &'a [i32],
     points: usize,
     options: BuildOptions,
     at: Places,
-    stripes: &mut [u32],
-    list: &mut [u32],
-) -> StripesBuilt
-    requires points_value { ring_checked ring.now points ≡ Sound }
-    requires zero_from { ZeroFrom at.stripes stripes.old }
-    requires zero_from_2 { ZeroFrom at.list list.old }
-    ensures { stripes_put options (wide ring.now) points at stripes.old list.old ≡ (result, stripes.new, list.new) }
-{
-    if !options.gives_stripes(points - 1) {
-        return StripesBuilt::Unstriped;
-    }
-    let from = at.stripes;
-    let next = at.list;
-    build_stripes(ring, points, 0, &mut stripes[from..], &mut list[next..])
+    ghost checked: { ring_checked ring.now points ≡ Ok tt },
 }
 
-// Its tree, behind those of the rings before it.
-fn ring_tree(
-    ring: &[i32],
-    points: usize,
-    options: BuildOptions,
-    at: Places,
-    bytes: &mut [u8],
-    work: &mut [u32],
-) -> TreeBuilt
-    requires points_value { ring_checked ring.now points ≡ Sound }
-    requires zero_from { ZeroFrom at.bytes bytes.old }
-    requires work_value { work.old ≡ replicate (length work.old) 0 }
-    ensures { tree_put options (wide ring.now) points at bytes.old work.old ≡ (result, bytes.new, work.new) }
-{
-    if !options.gives_tree(points - 1) {
-        return TreeBuilt::Unpacked;
+impl<'a> Step<'a> {
+    // The stripes of the ring, behind those of the rings before it.
+    fn put_stripes(self, stripes: &mut [u32], list: &mut [u32]) -> Result<Option<Stripes>, Refusal>
+        requires zero_from { ZeroFrom self.at.stripes stripes.old }
+        requires zero_from_2 { ZeroFrom self.at.list list.old }
+        ensures { stripes_put self.entry.options (wide self.entry.ring.now) self.entry.points self.entry.at stripes.old list.old ≡ (result, stripes.new, list.new) }
+    {
+        if !self.options.gives_stripes(self.points - 1) {
+            return Ok(None);
+        }
+        build_stripes(
+            self.ring,
+            self.points,
+            0,
+            &mut stripes[self.at.stripes..],
+            &mut list[self.at.list..],
+        )
     }
-    let from = at.bytes;
-    build_tree(ring, points, 0, &mut bytes[from..], work)
+
+    // Its tree, behind those of the rings before it.
+    fn put_tree(self, bytes: &mut [u8], work: &mut [u32]) -> Result<Option<usize>, Refusal>
+        requires zero_from { ZeroFrom self.at.bytes bytes.old }
+        requires work_value { work.old ≡ replicate (length work.old) 0 }
+        ensures { tree_put self.entry.options (wide self.entry.ring.now) self.entry.points self.entry.at bytes.old work.old ≡ (result, bytes.new, work.new) }
+    {
+        if !self.options.gives_tree(self.points - 1) {
+            return Ok(None);
+        }
+        build_tree(self.ring, self.points, 0, &mut bytes[self.at.bytes..], work)
+    }
 }
 
-fn with_tree(gain: Gain, tree: TreeBuilt) -> Gained
-    requires { gain.kinds ≤ 1 }
-    ensures { result ≡ with_tree gain tree }
+// What the two builds come to together.
+fn gain_of(striped: Option<Stripes>, treed: Option<usize>) -> Gain
+    ensures { Some result ≡ gained (Ok striped) (Ok treed) }
 {
-    match tree {
-        TreeBuilt::Packed(bytes) => Gained::Parts(Gain {
+    let gain = match striped {
+        Some(stripes) => Gain {
+            kinds: 1,
+            least: stripes.least,
+            height: stripes.height,
+            stripes: stripes.stats.stripes,
+            entries: stripes.stats.entries,
+            fullest: stripes.stats.fullest,
+            bytes: 0,
+        },
+        None => Gain {
+            kinds: 0,
+            least: 0.0,
+            height: 0.0,
+            stripes: 0,
+            entries: 0,
+            fullest: 0,
+            bytes: 0,
+        },
+    };
+    match treed {
+        Some(bytes) => Gain {
             kinds: gain.kinds + 2,
-            least: gain.least,
-            height: gain.height,
-            stripes: gain.stripes,
-            entries: gain.entries,
-            fullest: gain.fullest,
             bytes,
-        }),
-        TreeBuilt::Unpacked => Gained::Parts(gain),
-        TreeBuilt::TreeRefused(_) => Gained::NoPlace,
-    }
-}
-
-fn gain_of(stripes: StripesBuilt, tree: TreeBuilt) -> Gained
-    ensures { result ≡ gained stripes tree }
-{
-    match stripes {
-        StripesBuilt::Striped(least, height, stats) => {
-            let gain = Gain {
-                kinds: 1,
-                least,
-                height,
-                stripes: stats.stripes,
-                entries: stats.entries,
-                fullest: stats.fullest,
-                bytes: 0,
-            };
-            with_tree(gain, tree)
-        }
-        StripesBuilt::Unstriped => {
-            let gain = Gain {
-                kinds: 0,
-                least: 0.0,
-                height: 0.0,
-                stripes: 0,
-                entries: 0,
-                fullest: 0,
-                bytes: 0,
-            };
-            with_tree(gain, tree)
-        }
-        StripesBuilt::StripesRefused(_) => Gained::NoPlace,
+            ..gain
+        },
+        None => gain,
     }
 }
 
 // The indexes of a ring, behind those of the rings before it. For the crate above, which has checked
-// the rings.
+// the rings. The rooms stay parameters of their own: the promise names them so, and a struct of `&mut` slices would have to
+// promise of each that it is still the room that was lent.
 pub fn index_ring(
     ring: &[i32],
     points: usize,
@@ -205,35 +171,23 @@ pub fn index_ring(
     list: &mut [u32],
     bytes: &mut [u8],
     work: &mut [u32],
-) -> Gained
-    requires points_value { ring_checked ring.now points ≡ Sound }
+) -> Option<Gain>
+    requires points_value { ring_checked ring.now points ≡ Ok tt }
     requires zero_from { ZeroFrom at.stripes stripes.old }
     requires zero_from_2 { ZeroFrom at.list list.old }
     requires zero_from_3 { ZeroFrom at.bytes bytes.old }
     requires work_value { work.old ≡ replicate (length work.old) 0 }
     ensures { Stepped options (wide ring.now) points (stripes_fit options (wide ring.now) points at stripes.old list.old && tree_fits options (wide ring.now) points at bytes.old work.old) at stripes.old list.old bytes.old work.old result stripes.new list.new bytes.new work.new }
 {
-    let striped = ring_stripes(ring, points, options, at, stripes, list);
-    let treed = ring_tree(ring, points, options, at, bytes, work);
-    gain_of(striped, treed)
-}
-
-fn bit_of(b: bool) -> u64
-    ensures { result ≡ bit b }
-{
-    if b { 1 } else { 0 }
-}
-
-// Ten numbers at a place.
-fn put_row(table: &mut [u64], at: usize, row: &[u64; Row::NUMBERS])
-    requires { (at + 10 ≤ length table.old) × (length row.now ≡ 10) }
-    ensures { table.new ≡ paste table.old at row.now 10 }
-{
-    let mut i: usize = 0;
-    while i < Row::NUMBERS {
-        table[at + i] = row[i];
-        i += 1;
-    }
+    let step = Step {
+        ring,
+        points,
+        options,
+        at,
+    };
+    let striped = step.put_stripes(stripes, list).ok()?;
+    let treed = step.put_tree(bytes, work).ok()?;
+    Some(gain_of(striped, treed))
 }
 
 // Writes ring k's row of the table, in the order that `Row` names, and its span, by what it got. For the crate above, which has
@@ -253,7 +207,7 @@ pub fn put_ring(
 {
     let row = [
         n as u64,
-        bit_of(options.says_under(n)),
+        u64::from(options.says_under(n)),
         gain.kinds as u64,
         at.stripes as u64,
         gain.stripes as u64,
@@ -263,7 +217,8 @@ pub fn put_ring(
         at.bytes as u64,
         gain.bytes as u64,
     ];
-    put_row(table, Row::NUMBERS * k, &row);
+    let start = Row::NUMBERS * k;
+    table[start..start + Row::NUMBERS].copy_from_slice(&row);
     let place = 2 * k;
     spans[place] = gain.least;
     spans[place + 1] = gain.height;

@@ -9,16 +9,15 @@ use answers::Answer;
 use boxes::Point;
 use outline_ask::inside;
 use outline_check::Outline;
-use outline_record::{Made, make_boxes};
+use outline_record::make_boxes;
+use outline_ring::Indexes;
 
 // Whatever is lent as a slice of i32 is a list of i32 numbers. Each number is read, since reading it is what tells its range.
 fn lent_numbers(coords: &[i32])
     ensures { I32s coords.now }
 {
-    let mut i: usize = 0;
-    while i < coords.len() {
-        let number = coords[i];
-        i += 1;
+    for number in coords {
+        let _read = *number;
     }
 }
 
@@ -29,17 +28,13 @@ pub fn inside_plain(outline: Outline, sizes: &[u32], coords: &[i32], p: Point, e
 {
     lent_numbers(coords);
     let mut boxes = [0i32; 256];
-    let made = make_boxes(outline, sizes, coords, &mut boxes);
-    match made {
-        Made::Unmade(why) => Answer::Refused(why),
-        Made::Rings(n) => {
-            let table = [0u64; 1];
-            let spans = [0.0; 1];
-            let numbers = [0u32; 1];
-            let bytes = [0u8; 1];
-            inside(
-                outline, sizes, coords, &boxes, &table, &spans, &numbers, &numbers, &bytes, p, edge,
-            )
-        }
-    }
+    make_boxes(outline, sizes, coords, &mut boxes)?;
+    let lent = Indexes {
+        table: &[0],
+        spans: &[0.0],
+        stripes: &[0],
+        list: &[0],
+        bytes: &[0],
+    };
+    inside(outline, sizes, coords, &boxes, lent, p, edge)
 }

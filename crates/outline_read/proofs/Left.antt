@@ -1,5 +1,6 @@
 -- What building the indexes of an outline leaves in the rooms is, for every ring, what the options give it, and the ring's own; so each ring's test
 -- through it is the scan's. Assumes nothing.
+use Rattle.std.specs.Prelude.{Ok, Err}
 use Prim.Native.Nat.{ℕ, ◌<◌}
 use mathlib.Core.Path.{◌≡◌, refl, sym, ap, ◌∙◌, subst}
 use mathlib.Core.List.{List}
@@ -14,8 +15,7 @@ use Rattle.answers.specs.declared.Refusal.TheVariants.{NoRoom}
 use Rattle.answers.specs.Answers.{said}
 use Rattle.boxes.specs.declared.Point.{Point}
 use Rattle.room.specs.Room.{pad}
-use Rattle.rings.specs.declared.Checked.{Checked}
-use Rattle.rings.specs.declared.Checked.TheVariants.{Sound, Faulty}
+use Rattle.rings.specs.Checks.{Checked}
 use Rattle.rings.specs.Ring.{wide, segments}
 use Rattle.rings.specs.I32s.{I32s}
 use Rattle.rings.proofs.Checks.{both}
@@ -32,7 +32,6 @@ use Rattle.outline_index.specs.declared.BuildOptions.{BuildOptions}
 use Rattle.outline_index.specs.Pools.{pad_with}
 use Rattle.outline_index.specs.Parts.{no_height, has_stripes as getsStripes, has_tree as getsTree, few_stripes, enough_work}
 use Rattle.outline_index.proofs.Pools.{every_one}
-use Rattle.outline_build.specs.declared.Built.TheVariants.{Indexed, Unbuilt}
 use Rattle.outline_build.proofs.Roomy.{roomy_is}
 use Rattle.outline_build.specs.Indexes.{Outcome, stripes_to, list_to, bytes_to, spans_to, rows_to, calls, zeroed, when_shaped, roomy, indexed, indexes_built}
 use Rattle.outline_read.proofs.Rows.{made, tells_its_stripes, tells_its_tree, made_own}
@@ -48,10 +47,10 @@ module _ (sizes : List ℕ) (coords : List ℤ) (options : BuildOptions) (table 
       (every_one (calls options sizes coords work) k (rings sizes) h enough.called)).0
 
   module _ (count : ℕ) (t : List ℕ) (sp : List Float) (s l b w : List ℕ)
-      (built : indexes_built sizes coords options table spans stripes list bytes work ≡ (Indexed count, t, sp, s, l, b, w)) where
+      (built : indexes_built sizes coords options table spans stripes list bytes work ≡ (Ok count, t, sp, s, l, b, w)) where
     -- what a building that isn't refused says
     record Left : Type 0 where
-      shape : shape_checked sizes coords ≡ Sound
+      shape : shape_checked sizes coords ≡ Ok tt
       enough : roomy table spans stripes list bytes work options sizes coords ≡ true
       holds : made options sizes coords (length table) (length spans) (length stripes) (length list) (length bytes) ≡ lent t sp s l b
 
@@ -59,14 +58,14 @@ module _ (sizes : List ℕ) (coords : List ℤ) (options : BuildOptions) (table 
     unfolding indexes_built indexed
     left = go (shape_checked sizes coords) (roomy table spans stripes list bytes work options sizes coords) refl refl built
       where
-        never : (why : Refusal) (o : Outcome) → o.0 ≡ Unbuilt why → o ≡ (Indexed count, t, sp, s, l, b, w) → ⊥
-        never why o e f = let g : Unbuilt why ≡ Indexed count = sym e ∙ ap (λ (o : Outcome). o.0) f in let z : ◌≡◌ {A = ℕ} 0 1 = cc in omega arith
+        never : (why : Refusal) (o : Outcome) → o.0 ≡ Err why → o ≡ (Ok count, t, sp, s, l, b, w) → ⊥
+        never why o e f = let g : Err why ≡ Ok count = sym e ∙ ap (λ (o : Outcome). o.0) f in let z : ◌≡◌ {A = ℕ} 0 1 = cc in omega arith
 
         go : (c : Checked) (r : Bool) → shape_checked sizes coords ≡ c → roomy table spans stripes list bytes work options sizes coords ≡ r
             → ◌≡◌ {A = Outcome}
             (when_shaped table spans stripes list bytes work c
             (cond r (
-              Indexed (rings sizes),
+              Ok (rings sizes),
               pad (length table) (rows_to options sizes coords (rings sizes)),
               pad_with no_height (length spans) (spans_to options sizes coords (rings sizes)),
               pad (length stripes) (stripes_to options sizes coords (rings sizes)),
@@ -74,12 +73,12 @@ module _ (sizes : List ℕ) (coords : List ℤ) (options : BuildOptions) (table 
               pad (length bytes) (bytes_to options sizes coords (rings sizes)),
               replicate (length work) 0,
             )
-            (zeroed table spans stripes list bytes work (Unbuilt NoRoom))))
-            (Indexed count, t, sp, s, l, b, w)
+            (zeroed table spans stripes list bytes work (Err NoRoom))))
+            (Ok count, t, sp, s, l, b, w)
             → Left
-        go Sound true e f g = record { shape = e; enough = f; holds = ap (λ (o : Outcome). lent o.1 o.2 o.3 o.4 o.5) g }
-        go Sound false e f g = absurd (never NoRoom _ refl g)
-        go (Faulty why) r e f g = absurd (never why _ refl g)
+        go (Ok _) true e f g = record { shape = e; enough = f; holds = ap (λ (o : Outcome). lent o.1 o.2 o.3 o.4 o.5) g }
+        go (Ok _) false e f g = absurd (never NoRoom _ refl g)
+        go (Err why) r e f g = absurd (never why _ refl g)
 
     module _ (k : ℕ) (below : k < rings sizes) where
       -- the ring has the indexes that the options give it

@@ -6,6 +6,7 @@ use mathlib.Core.Logic.{⊎_elim}
 use native.Mathlib.Omega.{arith}
 use lib.ListN.{length, get_or, take, drop, replicate, length-append, get_or-append}
 use lib.Seq.{take-append_seam, drop-append_seam, get_or-append-add}
+use Rattle.room.specs.Room.{padded}
 use Rattle.room.proofs.Cases.{lt_or}
 use Rattle.outline_index.specs.Pools.{in_turn, pad_with}
 use Rattle.outline_index.proofs.Pools.{turn_like}
@@ -28,7 +29,7 @@ module _ {A : Type 0} (f : ℕ → List A) where
 
   module _ (z : A) (n k m : ℕ) (below : k < m) where
     pool_split : (rest : List A) × (pad_with z n (in_turn f m) ≡ in_turn f k ++ (f k ++ rest))
-    unfolding pad_with
+    unfolding padded
     pool_split =
         let r = turn_split k m below in
         let zeros = replicate (n - length (in_turn f m)) z in (

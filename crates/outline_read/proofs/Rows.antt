@@ -24,7 +24,7 @@ use Rattle.outline_table.specs.Row.{number}
 use Rattle.outline_index.specs.declared.BuildOptions.{BuildOptions}
 use Rattle.outline_index.specs.Pools.{pad_with}
 use Rattle.outline_index.specs.Parts.{no_height, has_stripes as getsStripes, has_tree as getsTree, ring_stripes, ring_list, stripes_part, list_part, bytes_part, least_in, height_in, span_part, stripes_in, entries_in, few_stripes}
-use Rattle.outline_index.proofs.Pools.{pad_is, turn_like}
+use Rattle.outline_index.proofs.Pools.{turn_like}
 use Rattle.outline_build.specs.Indexes.{stripes_to, list_to, bytes_to, spans_to, row_at, rows_to}
 use Rattle.outline_agree.specs.Own.{OwnIndex}
 use Rattle.outline_read.proofs.Pools.{pool_part, pool_lies, pool_at}
@@ -96,8 +96,7 @@ module _ (options : BuildOptions) (sizes : List ℕ) (coords : List ℤ) where
   module _ (t sp s l b k : ℕ) (below : k < rings sizes) where
     pub row_number : (i : ℕ) → i < 10 → number (made t sp s l b).table k i ≡ get_or (row_at options sizes coords k) i 0
     row_number i h =
-        ap (λ (xs : List ℕ). number xs k i) (pad_is t (rows_to options sizes coords (rings sizes)))
-        ∙ pool_at (row_at options sizes coords) 0 t k (rings sizes) below 10 (λ j. refl) i h 0
+        pool_at (row_at options sizes coords) 0 t k (rings sizes) below 10 (λ j. refl) i h 0
 
     -- it has what the options give it
     pub tells_its_stripes : has_stripes (made t sp s l b).table k ≡ getsStripes options (segments (size_at sizes k))
@@ -125,21 +124,19 @@ module _ (options : BuildOptions) (sizes : List ℕ) (coords : List ℤ) where
     reads_stripes =
         let count = stripes_long options (wide (ring_of sizes coords k)) (size_at sizes k) in
         ap₂ (λ (at n : ℕ). part (made t sp s l b).stripes at (2 * n)) (row_number 3 (omega arith)) (row_number 4 (omega arith))
-        ∙ ap₂ (λ (xs : List ℕ) (n : ℕ). part xs (length (stripes_to options sizes coords k)) n) (pad_is s (stripes_to options sizes coords (rings sizes))) count
+        ∙ ap (λ (n : ℕ). part (made t sp s l b).stripes (length (stripes_to options sizes coords k)) n) count
         ∙ pool_part (λ j. stripes_part options (wide (ring_of sizes coords j)) (size_at sizes j)) 0 s k (rings sizes) below
 
     pub reads_list : list_of (made t sp s l b).table (made t sp s l b).list k ≡ list_part options (wide (ring_of sizes coords k)) (size_at sizes k)
     reads_list =
         let count = entries_long options (wide (ring_of sizes coords k)) (size_at sizes k) in
         ap₂ (λ (at n : ℕ). part (made t sp s l b).list at n) (row_number 5 (omega arith)) (row_number 6 (omega arith))
-        ∙ ap₂ (λ (xs : List ℕ) (n : ℕ). part xs (length (list_to options sizes coords k)) n) (pad_is l (list_to options sizes coords (rings sizes))) count
+        ∙ ap (λ (n : ℕ). part (made t sp s l b).list (length (list_to options sizes coords k)) n) count
         ∙ pool_part (λ j. list_part options (wide (ring_of sizes coords j)) (size_at sizes j)) 0 l k (rings sizes) below
 
     pub reads_bytes : bytes_of (made t sp s l b).table (made t sp s l b).bytes k ≡ bytes_part options (wide (ring_of sizes coords k)) (size_at sizes k)
     reads_bytes =
         ap₂ (λ (at n : ℕ). part (made t sp s l b).bytes at n) (row_number 8 (omega arith)) (row_number 9 (omega arith))
-        ∙ ap (λ (xs : List ℕ). part xs (length (bytes_to options sizes coords k)) (length (bytes_part options (wide (ring_of sizes coords k)) (size_at sizes k))))
-        (pad_is b (bytes_to options sizes coords (rings sizes)))
         ∙ pool_part (λ j. bytes_part options (wide (ring_of sizes coords j)) (size_at sizes j)) 0 b k (rings sizes) below
 
     -- all of them lie in the rooms
@@ -147,14 +144,14 @@ module _ (options : BuildOptions) (sizes : List ℕ) (coords : List ℤ) where
     stripes_there =
         let count = stripes_long options (wide (ring_of sizes coords k)) (size_at sizes k) in
         ap₂ (λ (at n : ℕ). lies (made t sp s l b).stripes at (2 * n)) (row_number 3 (omega arith)) (row_number 4 (omega arith))
-        ∙ ap₂ (λ (xs : List ℕ) (n : ℕ). lies xs (length (stripes_to options sizes coords k)) n) (pad_is s (stripes_to options sizes coords (rings sizes))) count
+        ∙ ap (λ (n : ℕ). lies (made t sp s l b).stripes (length (stripes_to options sizes coords k)) n) count
         ∙ le-leb _ _ (pool_lies (λ j. stripes_part options (wide (ring_of sizes coords j)) (size_at sizes j)) 0 s k (rings sizes) below)
 
     list_there : lies (made t sp s l b).list (number (made t sp s l b).table k 5) (number (made t sp s l b).table k 6) ≡ true
     list_there =
         let count = entries_long options (wide (ring_of sizes coords k)) (size_at sizes k) in
         ap₂ (λ (at n : ℕ). lies (made t sp s l b).list at n) (row_number 5 (omega arith)) (row_number 6 (omega arith))
-        ∙ ap₂ (λ (xs : List ℕ) (n : ℕ). lies xs (length (list_to options sizes coords k)) n) (pad_is l (list_to options sizes coords (rings sizes))) count
+        ∙ ap (λ (n : ℕ). lies (made t sp s l b).list (length (list_to options sizes coords k)) n) count
         ∙ le-leb _ _ (pool_lies (λ j. list_part options (wide (ring_of sizes coords j)) (size_at sizes j)) 0 l k (rings sizes) below)
 
     span_there : lies (made t sp s l b).spans (2 * k) 2 ≡ true
@@ -168,8 +165,6 @@ module _ (options : BuildOptions) (sizes : List ℕ) (coords : List ℤ) where
     pub made_lies : tree_lies (made t sp s l b) k ≡ true
     made_lies =
         ap₂ (λ (at n : ℕ). lies (made t sp s l b).bytes at n) (row_number 8 (omega arith)) (row_number 9 (omega arith))
-        ∙ ap (λ (xs : List ℕ). lies xs (length (bytes_to options sizes coords k)) (length (bytes_part options (wide (ring_of sizes coords k)) (size_at sizes k))))
-        (pad_is b (bytes_to options sizes coords (rings sizes)))
         ∙ le-leb _ _ (pool_lies (λ j. bytes_part options (wide (ring_of sizes coords j)) (size_at sizes j)) 0 b k (rings sizes) below)
 
     -- which is what building an index from the ring gives it

@@ -8,6 +8,7 @@ use native.Mathlib.Nat.{le_trans}
 use lib.IntN.{ℤ}
 use lib.Signed.{lt_z, le_z}
 use borrow.Author.Tests.{ltb-true, ltb-false, leb-true, le-leb}
+use Rattle.std.specs.Int.{int_min, int_max}
 use Rattle.room.proofs.Cases.{eq_or}
 use Rattle.rings.proofs.Whole.{diff, shifted, lt_shift, le_shift}
 use Rattle.outline_record.specs.Record.{lesser_z, greater_z, least_z, greatest_z}
@@ -36,6 +37,34 @@ level =
   where
     both : (a b : ℕ) → b ≤ a → a ≤ b → a ≡ b
     both a b h k = omega arith
+
+-- each below the other cannot be
+crossed : (x y z : ℤ) → lt_z x y ≡ true → lt_z y x ≡ true → x ≡ y
+crossed =
+    shifted (λ x y z. lt_z x y ≡ true → lt_z y x ≡ true → x ≡ y)
+    (λ o a b c p q. absurd (never a b (ltb-true a b (sym (lt_shift o a b) ∙ p)) (ltb-true b a (sym (lt_shift o b a) ∙ q))))
+  where
+    never : (a b : ℕ) → a < b → b < a → ⊥
+    never a b h k = omega arith
+
+-- std's lesser and greater of two
+pub min_lesser : (x y : ℤ) → int_min x y ≡ lesser_z x y
+min_lesser x y = go (lt_z x y) (lt_z y x) refl refl
+  where
+    go : (s t : Bool) → lt_z x y ≡ s → lt_z y x ≡ t → int_min x y ≡ lesser_z x y
+    go true true p q = rw (p, q) (sym (crossed x y x p q))
+    go true false p q = rw (p, q)
+    go false true p q = rw (p, q)
+    go false false p q = rw (p, q) (level x y x p q)
+
+pub max_greater : (x y : ℤ) → int_max x y ≡ greater_z x y
+max_greater x y = go (lt_z x y) (lt_z y x) refl refl
+  where
+    go : (s t : Bool) → lt_z x y ≡ s → lt_z y x ≡ t → int_max x y ≡ greater_z x y
+    go true true p q = rw (p, q) (crossed x y x p q)
+    go true false p q = rw (p, q)
+    go false true p q = rw (p, q)
+    go false false p q = rw (p, q) (sym (level x y x p q))
 
 same : (x y z : ℤ) → le_z x x ≡ true
 same = shifted (λ x y z. le_z x x ≡ true) (λ o a b c. le_shift o a a ∙ le-leb a a (omega arith))

@@ -21,9 +21,12 @@ boxes_none sizes coords out = refl
 pub box_written : (out ring : List ℤ) (i points : ℕ) {a b c d : ℤ}
     → a ≡ least_z (λ k. at ring 0 k) (points - 1) → b ≡ least_z (λ k. at ring 1 k) (points - 1)
     → c ≡ greatest_z (λ k. at ring 0 k) (points - 1) → d ≡ greatest_z (λ k. at ring 1 k) (points - 1)
-    → set (set (set (set out i a) (i + 1) b) (i + 1 + 1) c) (i + 1 + 1 + 1) d ≡ write out i (box_numbers ring points)
+    → set (set (set (set out i a) (i + 1) b) (i + 2) c) (i + 3) d ≡ write out i (box_numbers ring points)
 unfolding write box_numbers
-box_written out ring i points p q r s = rw (p, q, r, s) (simp add-zero)
+box_written out ring i points p q r s =
+    let third : i + 1 + 1 ≡ i + 2 = omega arith in
+    let fourth : i + 2 + 1 ≡ i + 3 = omega arith in
+    rw (p, q, r, s, third, fourth) (simp add-zero)
 
 module _ (sizes : List ℕ) (coords : List ℤ) where
   pub numbers_length : (ring : List ℤ) (points : ℕ) → length (box_numbers ring points) ≡ 4

@@ -11,36 +11,36 @@ use lib.Signed.{lt_z}
 use lib.Dec.{T}
 use lib.Ieee.{Float, binary64, of_int, lt, eq, ne}
 use lib.Ieee.Bits.{is_true}
+use Rattle.std.specs.Int.{int_min, int_max}
 use Rattle.floats.specs.Values.{lesser_of, greater_of}
 use Rattle.floats.proofs.Order.{le_refl, le_antisym, lt_le, lt_not_le}
 use Rattle.floats.proofs.Ints.{of_int_lt, of_int_number}
 use Rattle.tree.specs.Tree.{least, greatest}
-use Rattle.outline_record.specs.Record.{lesser_z, greater_z, least_z, greatest_z}
-use Rattle.outline_record.proofs.Among.{level}
+use Rattle.outline_record.specs.Record.{lesser_z, greater_z, least_z, greatest_z, picked_z}
+use Rattle.outline_record.proofs.Among.{level, min_lesser, max_greater}
 
 -- the first (offset 0) or the second (offset 1) coordinate of point k
 abbrev pub at : List ℤ → ℕ → ℕ → ℤ
 at ring offset k = get_or ring (k * 2 + offset) (pos 0)
 
-module _ (ring : List ℤ) (offset : ℕ) where
-  first : get_or ring offset (pos 0) ≡ at ring offset 0
-  first = ap (λ (k : ℕ). get_or ring k (pos 0)) (omega arith)
+module _ (ring : List ℤ) (offset : ℕ) (pick : ℤ → ℤ → ℤ) where
+  pub picked_first : get_or ring offset (pos 0) ≡ picked_z pick (at ring offset) 0
+  unfolding picked_z
+  picked_first = ap (λ (k : ℕ). get_or ring k (pos 0)) (omega arith)
 
-  pub least_first : get_or ring offset (pos 0) ≡ least_z (at ring offset) 0
-  unfolding least_z
-  least_first = first
+  pub picked_next : (i : ℕ) → pick (picked_z pick (at ring offset) i) (at ring offset (i + 1)) ≡ picked_z pick (at ring offset) (i + 1)
+  unfolding picked_z
+  picked_next i = rw add-one
 
-  pub least_next : (i : ℕ) → lesser_z (least_z (at ring offset) i) (at ring offset (i + 1)) ≡ least_z (at ring offset) (i + 1)
-  unfolding least_z
-  least_next i = rw add-one
+pub picked_least : (f : ℕ → ℤ) (n : ℕ) → picked_z int_min f n ≡ least_z f n
+unfolding picked_z least_z
+picked_least f zero = refl
+picked_least f (suc n) = ap (λ (x : ℤ). int_min x (f (suc n))) (picked_least f n) ∙ min_lesser (least_z f n) (f (suc n))
 
-  pub greatest_first : get_or ring offset (pos 0) ≡ greatest_z (at ring offset) 0
-  unfolding greatest_z
-  greatest_first = first
-
-  pub greatest_next : (i : ℕ) → greater_z (greatest_z (at ring offset) i) (at ring offset (i + 1)) ≡ greatest_z (at ring offset) (i + 1)
-  unfolding greatest_z
-  greatest_next i = rw add-one
+pub picked_greatest : (f : ℕ → ℤ) (n : ℕ) → picked_z int_max f n ≡ greatest_z f n
+unfolding picked_z greatest_z
+picked_greatest f zero = refl
+picked_greatest f (suc n) = ap (λ (x : ℤ). int_max x (f (suc n))) (picked_greatest f n) ∙ max_greater (greatest_z f n) (f (suc n))
 
 -- a whole number that a float holds
 abbrev Small : ℤ → Type 0

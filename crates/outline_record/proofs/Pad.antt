@@ -1,29 +1,19 @@
 -- Zeros behind the used part of a record. Assumes nothing.
-use Prim.Native.Nat.{ℕ, ◌+◌, ◌-◌, ◌*◌, ◌≤◌, ◌<◌}
+use Rattle.std.specs.Prelude.{Ok, Err}
+use Prim.Native.Nat.{ℕ, ◌+◌, ◌*◌, ◌≤◌, ◌<◌}
 use mathlib.Core.Path.{◌≡◌, ap, ◌∙◌}
 use mathlib.Core.List.{List}
 use native.Mathlib.Omega.{arith}
-use native.Mathlib.Nat.{sub-zero}
-use lib.ListN.{length, take, drop, replicate, length-take}
+use lib.ListN.{length, take, drop, replicate}
 use lib.Seq.{take_at}
 use lib.IntN.{ℤ, pos}
 use Rattle.room.specs.Room.{write}
 use Rattle.room.proofs.Write.{write_eq, write_length}
-use Rattle.room.proofs.Fill.{filled}
 use borrow.Author.Tests.{le-leb, lt-leb}
 use Rattle.answers.specs.declared.Refusal.TheVariants.{NoRoom}
 use Rattle.outline_check.specs.Outline.{rings}
-use Rattle.outline_record.specs.declared.Made.TheVariants.{Rings, Unmade}
 use Rattle.outline_record.specs.Record.{boxes_of}
 use Rattle.outline_record.specs.Made.{pad_z, recorded}
-
-pub pad_filled : (l : List ℤ) (i : ℕ) → pad_z (length l) (take i l) ≡ filled (pos 0) l i
-unfolding pad_z filled
-pad_filled l i = let e : length l - length (take i l) ≡ length l - i = omega (arith, length-take i l) in rw e
-
-pub pad_none : (l : List ℤ) → pad_z (length l) (take 0 l) ≡ replicate (length l) (pos 0)
-unfolding pad_z
-pad_none l = rw sub-zero
 
 -- a list written at the front, and zeros behind it
 pub pad_written : (l xs : List ℤ) (n : ℕ) → length xs ≡ n → n ≤ length l → pad_z (length l) (take n (write l 0 xs)) ≡ pad_z (length l) xs
@@ -39,10 +29,10 @@ written_padded boxes mid xs n w e h =
     ∙ pad_written boxes xs n e h
 
 module _ (sizes : List ℕ) (coords boxes : List ℤ) where
-  pub recorded_fits : 4 * rings sizes ≤ length boxes → recorded sizes coords boxes ≡ (Rings (rings sizes), pad_z (length boxes) (boxes_of sizes coords))
+  pub recorded_fits : 4 * rings sizes ≤ length boxes → recorded sizes coords boxes ≡ (Ok (rings sizes), pad_z (length boxes) (boxes_of sizes coords))
   unfolding recorded
   recorded_fits h = rw (le-leb (4 * rings sizes) (length boxes) h)
 
-  pub recorded_short : length boxes < 4 * rings sizes → recorded sizes coords boxes ≡ (Unmade NoRoom, replicate (length boxes) (pos 0))
+  pub recorded_short : length boxes < 4 * rings sizes → recorded sizes coords boxes ≡ (Err NoRoom, replicate (length boxes) (pos 0))
   unfolding recorded
   recorded_short h = rw (lt-leb (4 * rings sizes) (length boxes) h)

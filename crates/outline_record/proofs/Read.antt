@@ -1,4 +1,5 @@
 -- A made record read again: ring k's box is the box of ring k's points. Assumes nothing.
+use Rattle.std.specs.Prelude.{Ok, Err}
 use Prim.Native.Nat.{ℕ, zero, suc, ◌+◌, ◌-◌, ◌*◌, ◌^◌, ◌≤◌, ◌<◌}
 use mathlib.Core.Path.{◌≡◌, refl, sym, ap, ◌∙◌}
 use mathlib.Core.List.{List, [], ◌++◌, append_assoc, append-nil}
@@ -13,8 +14,7 @@ use lib.Ieee.{Float, binary64, of_int}
 use Rattle.room.proofs.Cases.{lt_or, eq_or, both}
 use Rattle.floats.proofs.Ints.{i32_small}
 use Rattle.boxes.specs.Quads.{box}
-use Rattle.rings.specs.declared.Checked.{Checked}
-use Rattle.rings.specs.declared.Checked.TheVariants.{Sound, Faulty}
+use Rattle.rings.specs.Checks.{Checked}
 use Rattle.rings.specs.Ring.{wide, point_at}
 use Rattle.rings.specs.I32s.{I32s}
 use Rattle.tree.specs.Tree.{ring_box}
@@ -23,7 +23,6 @@ use Rattle.outline_check.specs.Rules.{outline_checked}
 use Rattle.outline_check.specs.Inner.Counted.{Counted}
 use Rattle.outline_check.proofs.Starts.{part_within}
 use Rattle.outline_record.specs.Record.{least_z, greatest_z, box_numbers, boxes_to, boxes_of, rect_at, grid_box_holds}
-use Rattle.outline_record.specs.declared.Made.TheVariants.{Rings, Unmade}
 use Rattle.outline_record.specs.Made.{Outcome, pad_z, recorded, when_passed, boxes_made}
 use Rattle.outline_record.proofs.Pad.{recorded_fits, recorded_short}
 use Rattle.outline_record.proofs.Boxes.{boxes_length, numbers_length}
@@ -99,15 +98,15 @@ grid_box_in sizes coords rest k x y h =
 
 -- what a record that was made tells: the outline passed the rules, and the room holds the boxes and zeros behind them
 pub made_record : (scale : Float) (sizes : List ℕ) (coords boxes out : List ℤ) (n : ℕ)
-    → boxes_made scale sizes coords boxes ≡ (Rings n, out)
-    → (outline_checked scale sizes coords ≡ Sound) × (n ≡ rings sizes) × (out ≡ pad_z (length boxes) (boxes_of sizes coords))
+    → boxes_made scale sizes coords boxes ≡ (Ok n, out)
+    → (outline_checked scale sizes coords ≡ Ok tt) × (n ≡ rings sizes) × (out ≡ pad_z (length boxes) (boxes_of sizes coords))
 unfolding boxes_made
 made_record scale sizes coords boxes out n e = go (outline_checked scale sizes coords) refl e
   where
-    go : (x : Checked) → outline_checked scale sizes coords ≡ x → when_passed x boxes (recorded sizes coords boxes) ≡ (Rings n, out)
-        → (outline_checked scale sizes coords ≡ Sound) × (n ≡ rings sizes) × (out ≡ pad_z (length boxes) (boxes_of sizes coords))
-    go (Faulty why) p q = let u : Unmade why ≡ Rings n = ap (λ (y : Outcome). y.0) q in let z : ◌≡◌ {A = ℕ} 0 1 = cc in absurd (omega arith)
-    go Sound p q =
+    go : (x : Checked) → outline_checked scale sizes coords ≡ x → when_passed x boxes (recorded sizes coords boxes) ≡ (Ok n, out)
+        → (outline_checked scale sizes coords ≡ Ok tt) × (n ≡ rings sizes) × (out ≡ pad_z (length boxes) (boxes_of sizes coords))
+    go (Err why) p q = let u : Err why ≡ Ok n = ap (λ (y : Outcome). y.0) q in let z : ◌≡◌ {A = ℕ} 0 1 = cc in absurd (omega arith)
+    go (Ok _) p q =
         ⊎_elim
         (λ (short : length boxes < 4 * rings sizes).
         let u = (both q (recorded_short sizes coords boxes short)).0 in let z : ◌≡◌ {A = ℕ} 0 1 = cc in absurd (omega arith))

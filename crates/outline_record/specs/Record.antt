@@ -23,6 +23,11 @@ unfoldable pub greatest_z : (ℕ → ℤ) → ℕ → ℤ
 greatest_z f zero = f 0
 greatest_z f (suc n) = greater_z (greatest_z f n) (f (suc n))
 
+-- what picking one of two gives over f 0 .. f n: `least_z` picks the lesser each time, `greatest_z` the greater
+unfoldable pub picked_z : (ℤ → ℤ → ℤ) → (ℕ → ℤ) → ℕ → ℤ
+picked_z pick f zero = f 0
+picked_z pick f (suc n) = pick (picked_z pick f n) (f (suc n))
+
 -- a ring's box: least x, least y, greatest x, greatest y of its points
 unfoldable pub box_numbers : List ℤ → ℕ → List ℤ
 box_numbers ring points =

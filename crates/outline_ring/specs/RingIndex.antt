@@ -1,9 +1,8 @@
 -- 01, "Asking": the ring test of one ring of an outline, through the index that is lent for it, whoever wrote it.
-use Rattle.std.specs.Prelude.{Bool, cond, ◌&&◌, List, ℕ, ◌+◌, ◌*◌, ◌/◌, ◌%◌, length, get_or, take, drop, eqb, leb, Float}
+use Rattle.std.specs.Prelude.{Err, Bool, cond, ◌&&◌, List, ℕ, ◌+◌, ◌*◌, ◌/◌, ◌%◌, length, get_or, take, drop, eqb, leb, Float}
 use Rattle.std.specs.Float.{binary64}
 use Rattle.std.specs.Float.Ieee.{of_bits}
-use Rattle.answers.specs.declared.Answer.{Answer}
-use Rattle.answers.specs.declared.Answer.TheVariants.{Refused}
+use Rattle.answers.specs.Answers.{Answer}
 use Rattle.answers.specs.declared.Refusal.TheVariants.{Damaged}
 use Rattle.answers.specs.Answers.{said}
 use Rattle.boxes.specs.declared.Point.{Point}
@@ -13,6 +12,7 @@ use Rattle.stripes_find.specs.Search.{searched as stripesSearched}
 use Rattle.stripes_test.specs.Test.{verdict as stripesVerdict}
 use Rattle.tree.specs.Search.{searched as treeSearched}
 use Rattle.tree_find.specs.Find.{verdict as treeVerdict}
+use Rattle.outline_ring.specs.declared.Indexes.{Indexes as Rooms}
 use Rattle.outline_table.specs.Row.{number, kinds_place, stripes_start, stripes_place, list_start, entries_place, bytes_start, bytes_place}
 
 -- The indexes of all rings of an outline: a table, ten numbers a ring; least y and height, two floats a ring; and the stripes, lists and bytes of all
@@ -26,6 +26,10 @@ pub record Indexes : Type 0 where
 
 abbrev pub lent : List ℕ → List Float → List ℕ → List ℕ → List ℕ → Indexes
 lent table spans stripes list bytes = record { table = table; spans = spans; stripes = stripes; list = list; bytes = bytes }
+
+-- those that a call is lent
+abbrev pub lent_in : Rooms → Indexes
+lent_in x = lent x.table.now x.spans.now x.stripes.now x.list.now x.bytes.now
 
 -- n numbers from `at` on
 abbrev pub part : {A : Type 0} → List A → ℕ → ℕ → List A
@@ -79,11 +83,11 @@ abbrev pub stripes_asked : Indexes → ℕ → (ℕ → Float) → ℕ → Point
 stripes_asked x k ring n p edge =
     cond (stripes_lie x k)
     (stripesVerdict ring p edge (stripesSearched ring n (least_of x.spans k) (height_of x.spans k) (stripes_of x.table x.stripes k) (list_of x.table x.list k) p.y))
-    (Refused (Damaged 0))
+    (Err (Damaged 0))
 
 abbrev pub tree_asked : Indexes → ℕ → Rect → (ℕ → Float) → ℕ → Point → Bool → Answer
 tree_asked x k box ring n p edge =
-    cond (tree_lies x k) (treeVerdict ring p edge (treeSearched (bytes_of x.table x.bytes k) ring n p.y box)) (Refused (Damaged 0))
+    cond (tree_lies x k) (treeVerdict ring p edge (treeSearched (bytes_of x.table x.bytes k) ring n p.y box)) (Err (Damaged 0))
 
 -- "A ring without an index is scanned; with both, the stripes are read." Ring k has n segments and this box; p is finite.
 unfoldable pub ring_asked : Indexes → ℕ → Rect → (ℕ → Float) → ℕ → Point → Bool → Answer

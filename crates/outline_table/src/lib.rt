@@ -1,5 +1,8 @@
-// The table of an outline's indexes has a row of ten numbers for each ring: here is which number is which.
+// The table of an outline's indexes has a row of ten numbers for each ring: here is which number is which, and a number of it.
 #![tactic(auto)]
+
+ghost use Rattle.std.specs.Prelude.{◌≡◌};
+ghost use Rattle.outline_table.specs.Row.{number};
 
 // A row is lent as a part of the table, so the type holds nothing but the places in a row.
 #[derive(Clone, Copy)]
@@ -32,4 +35,12 @@ impl Row {
 
     // How many numbers a row has.
     pub const NUMBERS: usize = 10;
+
+    // Number i of ring k's row; one that is missing counts as 0.
+    pub fn number(table: &[u64], k: usize, i: usize) -> usize
+        ensures { result ≡ number table.now k i }
+    {
+        let at = k.saturating_mul(Row::NUMBERS).saturating_add(i);
+        table.get(at).map_or(0, |x| *x as usize)
+    }
 }

@@ -1,12 +1,10 @@
 -- Points, segments and boxes from their numbers, and the numbers that stand for them.
-use Rattle.std.specs.Prelude.{ℕ, zero, suc, ℤ, Float}
+use Rattle.std.specs.Prelude.{Option, Some, None, ℕ, zero, suc, ℤ, Float}
 use Rattle.boxes.specs.declared.Point.{Point}
 use Rattle.boxes.specs.declared.I32Point.{I32Point}
 use Rattle.boxes.specs.declared.Rect.{Rect}
 use Rattle.boxes.specs.declared.Side.{Side}
 use Rattle.boxes.specs.declared.Segment.{Segment}
-use Rattle.boxes.specs.declared.Chosen.{Chosen}
-use Rattle.boxes.specs.declared.Chosen.TheVariants.{Quadrant, Stays}
 use Rattle.boxes.specs.Boxes.{nw_of, sw_of, se_of, ne_of, south_of, east_of, north_of, west_of}
 
 abbrev pub point : Float → Float → Point
@@ -41,6 +39,6 @@ abbrev pub rect_numbers : Rect → Float × Float × Float × Float
 rect_numbers b = (b.min.x, b.min.y, b.max.x, b.max.y)
 
 -- 4 for a segment that stays
-abbrev pub chosen_number : Chosen → ℕ
-chosen_number (Quadrant q) = q
-chosen_number Stays = 4
+abbrev pub chosen_number : Option ℕ → ℕ
+chosen_number (Some q) = q
+chosen_number None = 4

@@ -1,28 +1,35 @@
-// How an inside question's answer is told.
+// How an answer is told.
 ghost use Rattle.std.specs.Prelude.{◌≡◌};
-ghost use Rattle.probe.specs.Numbers.{answer_numbers};
+ghost use Rattle.probe.specs.Numbers.{value_numbers, answer_numbers};
 
-use answers::Answer;
+use answers::{Answer, Refusal};
 
-// 1 for yes and 0 for no go to said, a refusal's place to place.
-pub fn put_answer(answer: Answer, place: &mut usize, said: &mut u32) -> u32
-    ensures { answer_numbers answer ≡ (result, place.new, said.new) }
+// What came with an answer goes to value, and a refusal's place to place; what there is none of is told as 0, and `none`.
+pub fn put_value<V: Copy>(
+    answer: Result<V, Refusal>,
+    none: V,
+    place: &mut usize,
+    value: &mut V,
+) -> u32
+    ensures { value_numbers none answer ≡ (result, place.new, value.new) }
 {
     match answer {
-        Answer::Yes => {
+        Ok(given) => {
             *place = 0;
-            *said = 1;
+            *value = given;
             0
         }
-        Answer::No => {
-            *place = 0;
-            *said = 0;
-            0
-        }
-        Answer::Refused(refusal) => {
+        Err(refusal) => {
             *place = refusal.place();
-            *said = 0;
+            *value = none;
             refusal.number()
         }
     }
+}
+
+// 1 for yes and 0 for no.
+pub fn put_answer(answer: Answer, place: &mut usize, said: &mut u32) -> u32
+    ensures { answer_numbers answer ≡ (result, place.new, said.new) }
+{
+    put_value(answer.map(u32::from), 0, place, said)
 }

@@ -12,7 +12,7 @@ use crate::rects::segment_of;
 use cross::{Sign, cross_sign};
 use grid::{GridResult, grid_ring, grid_test};
 
-// 0 passes, 1 flips, 2 on.
+// 0 passes, 1 flips, 2 on. Here and below a match and no `From`: neither the enum nor u32 is of this crate, and only it numbers them.
 fn number_of(said: GridResult) -> u32
     ensures { result ≡ grid_number said }
 {

@@ -6,7 +6,7 @@ ghost use Rattle.boxes.specs.Segments.{point_of, rect_of};
 ghost use Rattle.boxes.specs.Quads.{box, chosen, quad_bounds};
 ghost use Rattle.probe.specs.Boxes.{point, i32_point, segment, corner_of, side_of, point_numbers, side_numbers, rect_numbers, chosen_number};
 
-use boxes::{Chosen, I32Point, Point, Rect, Segment, Side, choose_quad, quad_bounds};
+use boxes::{I32Point, Point, Rect, Segment, Side, choose_quad, quad_bounds};
 
 pub fn point_of(x: f64, y: f64) -> Point
     ensures { result ≡ point x y }
@@ -168,8 +168,8 @@ pub extern "C" fn probe_choose_quad(
     ensures { result ≡ chosen_number (chosen (box x0 y0 x1 y1) (box u0 v0 u1 v1)) }
 {
     match choose_quad(rect_of(x0, y0, x1, y1), rect_of(u0, v0, u1, v1)) {
-        Chosen::Quadrant(q) => q,
-        Chosen::Stays => 4,
+        Some(q) => q,
+        None => 4,
     }
 }
 

@@ -4,8 +4,9 @@ ghost use Rattle.rings.specs.Listing.{scanned};
 ghost use Rattle.turn.specs.Turn.{turned};
 ghost use Rattle.probe.specs.Rings.{list_numbers, turn_numbers};
 
-use rings::{Listed, scan};
-use turn::{Turned, turn};
+use crate::answer::put_value;
+use rings::scan;
+use turn::{Turning, turn};
 
 // How many were listed, or a refusal's place, goes to value.
 #[unsafe(no_mangle)]
@@ -19,11 +20,11 @@ pub extern "C" fn probe_scan(
     ensures { list_numbers (scanned coords.now points y out.old) ≡ (result, value.new, out.new) }
 {
     match scan(coords, points, y, out) {
-        Listed::Count(n) => {
+        Ok(n) => {
             *value = n;
             0
         }
-        Listed::Unlisted(refusal) => {
+        Err(refusal) => {
             *value = refusal.place();
             refusal.number()
         }
@@ -40,16 +41,5 @@ pub extern "C" fn probe_turn(
 ) -> u32
     ensures { turn_numbers (turned coords.now points) ≡ (result, place.new, said.new) }
 {
-    match turn(coords, points) {
-        Turned::Turns(turning) => {
-            *place = 0;
-            *said = turning.number();
-            0
-        }
-        Turned::Unturned(refusal) => {
-            *place = refusal.place();
-            *said = 0;
-            refusal.number()
-        }
-    }
+    put_value(turn(coords, points).map(Turning::number), 0, place, said)
 }

@@ -6,12 +6,13 @@ ghost use Rattle.stripes_find.specs.Listing.{stripes_listed};
 ghost use Rattle.stripes_test.specs.Test.{stripes_tested};
 ghost use Rattle.probe.specs.Numbers.{answer_numbers};
 ghost use Rattle.probe.specs.Boxes.{point};
-ghost use Rattle.probe.specs.Stripes.{built_numbers, built_all, listed_numbers, listed_all};
+ghost use Rattle.probe.specs.Stripes.{built_numbers, built_all, listed_all};
 
-use crate::answer::put_answer;
+use crate::answer::{put_answer, put_value};
+use answers::Refusal;
 use boxes::Point;
-use stripes_build::{StripesBuilt, build_stripes};
-use stripes_find::{StripesListed, stripes_list};
+use stripes_build::{Stripes, build_stripes};
+use stripes_find::{StripeIndex, stripes_list};
 use stripes_place::stripe_of;
 use stripes_test::stripes_test;
 
@@ -23,7 +24,7 @@ pub extern "C" fn probe_stripe_of(y: f64, least: f64, height: f64, stripes: usiz
 }
 
 fn put_built(
-    answer: StripesBuilt,
+    answer: Result<Option<Stripes>, Refusal>,
     place: &mut usize,
     least: &mut f64,
     height: &mut f64,
@@ -42,17 +43,17 @@ fn put_built(
     *entries = 0;
     *fullest = 0;
     match answer {
-        StripesBuilt::Striped(low, tall, stats) => {
-            *least = low;
-            *height = tall;
-            *segments = stats.segments;
-            *stripes = stats.stripes;
-            *entries = stats.entries;
-            *fullest = stats.fullest;
+        Ok(Some(built)) => {
+            *least = built.least;
+            *height = built.height;
+            *segments = built.stats.segments;
+            *stripes = built.stats.stripes;
+            *entries = built.stats.entries;
+            *fullest = built.stats.fullest;
             0
         }
-        StripesBuilt::Unstriped => 0,
-        StripesBuilt::StripesRefused(refusal) => {
+        Ok(None) => 0,
+        Err(refusal) => {
             *place = refusal.place();
             refusal.number()
         }
@@ -82,23 +83,6 @@ pub extern "C" fn probe_build_stripes(
     )
 }
 
-fn put_listed(answer: StripesListed, place: &mut usize, count: &mut usize) -> u32
-    ensures { listed_numbers answer ≡ (result, place.new, count.new) }
-{
-    match answer {
-        StripesListed::StripesFound(n) => {
-            *place = 0;
-            *count = n;
-            0
-        }
-        StripesListed::StripesUnlisted(refusal) => {
-            *place = refusal.place();
-            *count = 0;
-            refusal.number()
-        }
-    }
-}
-
 #[unsafe(no_mangle)]
 pub extern "C" fn probe_list_stripes(
     coords: &[i32],
@@ -114,8 +98,13 @@ pub extern "C" fn probe_list_stripes(
 ) -> u32
     ensures { listed_all (stripes_listed coords.now points least height stripes.now list.now y out.old) ≡ ((result, place.new, count.new), out.new) }
 {
-    let answer = stripes_list(coords, points, least, height, stripes, list, y, out);
-    put_listed(answer, place, count)
+    let index = StripeIndex {
+        least,
+        height,
+        stripes,
+        list,
+    };
+    put_value(stripes_list(coords, points, index, y, out), 0, place, count)
 }
 
 #[unsafe(no_mangle)]
@@ -134,10 +123,12 @@ pub extern "C" fn probe_test_stripes(
 ) -> u32
     ensures { answer_numbers (stripes_tested coords.now points least height stripes.now list.now (point x y) edge) ≡ (result, place.new, said.new) }
 {
+    let index = StripeIndex {
+        least,
+        height,
+        stripes,
+        list,
+    };
     let p = Point { x, y };
-    put_answer(
-        stripes_test(coords, points, least, height, stripes, list, p, edge),
-        place,
-        said,
-    )
+    put_answer(stripes_test(coords, points, index, p, edge), place, said)
 }

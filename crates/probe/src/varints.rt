@@ -4,7 +4,7 @@ ghost use Rattle.varint.specs.Leb128.{encode};
 ghost use Rattle.varint.specs.Uvarint.{read_uvarint, append_uvarint};
 ghost use Rattle.probe.specs.Numbers.{read_numbers, append_numbers};
 
-use varint::{AppendUvarint, ReadUvarint, append_uvarint, read_uvarint, uvarint_len};
+use varint::{append_uvarint, read_uvarint, uvarint_len};
 
 #[unsafe(no_mangle)]
 pub extern "C" fn probe_uvarint_len(x: u64) -> usize
@@ -25,12 +25,12 @@ pub extern "C" fn probe_read_uvarint(
     ensures { read_numbers (read_uvarint 64 (take end src.now) at) ≡ (result, place.new, value.new) }
 {
     match read_uvarint(src, at, end) {
-        ReadUvarint::Value(x, next) => {
+        Ok((x, next)) => {
             *place = next;
             *value = x;
             0
         }
-        ReadUvarint::Unread(refusal) => {
+        Err(refusal) => {
             *place = refusal.place();
             *value = 0;
             refusal.number()
@@ -44,11 +44,11 @@ pub extern "C" fn probe_append_uvarint(out: &mut [u8], at: usize, x: u64, place:
     ensures { append_numbers (append_uvarint out.old at x) ≡ (result, place.new, out.new) }
 {
     match append_uvarint(out, at, x) {
-        AppendUvarint::Appended(next) => {
+        Ok(next) => {
             *place = next;
             0
         }
-        AppendUvarint::Unappended(refusal) => {
+        Err(refusal) => {
             *place = refusal.place();
             refusal.number()
         }

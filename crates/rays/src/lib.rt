@@ -11,13 +11,14 @@ ghost use Rattle.rays.specs.declared.RaycastResult.TheVariants.{Inside, Neither}
 use boxes::{Point, Segment};
 
 // What `raycast` answers.
-#[derive(Clone, Copy)]
+#[derive(Clone, Copy, Debug, PartialEq, Eq)]
 pub enum RaycastResult {
     On,
     Inside,
     Neither,
 }
 
+// The inner functions take ends and point number by number: `cast` says why.
 // Steps 2 and 3: ends and point agree in one coordinate, and in the other the point is in the ends' range.
 fn along(a: f64, b: f64, p: f64, c: f64, d: f64, q: f64) -> bool
     ensures { result ≡ (eq a b && eq p a && within c d q) }
@@ -40,12 +41,6 @@ fn lifted(ay: f64, by: f64, py: f64) -> f64
     }
 }
 
-fn choose(test: bool, yes: bool, no: bool) -> bool
-    ensures { result ≡ (if test then yes else no) }
-{
-    if test { yes } else { no }
-}
-
 // Step 8, about the end a.
 fn eighth(ax: f64, ay: f64, bx: f64, by: f64, px: f64, py: f64) -> RaycastResult
     ensures { result ≡ (if steep (at ax ay) (at bx by) (at px py) then Inside else Neither) }
@@ -57,18 +52,18 @@ fn eighth(ax: f64, ay: f64, bx: f64, by: f64, px: f64, py: f64) -> RaycastResult
 }
 
 // Steps 6 to 8.
+#[tactic(auto, unfolding(crate::specs::Raycast::last_steps))]
 fn crossing(ax: f64, ay: f64, bx: f64, by: f64, px: f64, py: f64) -> RaycastResult
     ensures { result ≡ last_steps (at ax ay) (at bx by) (at px py) }
 {
     let rises = ay < by;
     let backs = bx < ax;
-    if choose(rises, (py < ay) | (by < py), (py < by) | (ay < py)) {
+    let (low, high) = if rises { (ay, by) } else { (by, ay) };
+    let (left, right) = if backs { (bx, ax) } else { (ax, bx) };
+    if (py < low) | (high < py) | (right <= px) {
         return RaycastResult::Neither;
     }
-    if choose(backs, ax <= px, bx <= px) {
-        return RaycastResult::Neither;
-    }
-    if choose(backs, px <= bx, px <= ax) {
+    if px <= left {
         return RaycastResult::Inside;
     }
     if rises {
@@ -79,6 +74,7 @@ fn crossing(ax: f64, ay: f64, bx: f64, by: f64, px: f64, py: f64) -> RaycastResu
 
 // Steps 1 to 8 with one move at most in step 5, which is all that whole-number ends call for: between
 // neighbouring floats the steps move twice.
+#[tactic(auto, unfolding(crate::specs::Raycast::first_steps))]
 fn moved_once(ax: f64, ay: f64, bx: f64, by: f64, px: f64, py: f64) -> RaycastResult
     ensures { result ≡ cast_of (at ax ay) (at bx by) (at px py) }
 {
@@ -103,13 +99,20 @@ fn moved_once(ax: f64, ay: f64, bx: f64, by: f64, px: f64, py: f64) -> RaycastRe
     crossing(ax, ay, bx, by, px, lifted(ay, by, py))
 }
 
-// The eight steps, for the ring tests, which read a segment's ends number by number: handed over in
-// registers, they cost half of what they do as a struct.
+// The eight steps, for the ring tests, which read a segment's ends number by number. The numbers stay loose: handed over in
+// registers, they cost half of what they do as a struct (docs/PACE.md has the ring tests' lines).
 pub fn cast(ax: i32, ay: i32, bx: i32, by: i32, px: f64, py: f64) -> RaycastResult
     ensures steps { Raycast (ends ax ay bx by) (at px py) result }
     ensures computed { result ≡ raycast_of (ends ax ay bx by) (at px py) }
 {
-    moved_once(ax as f64, ay as f64, bx as f64, by as f64, px, py)
+    moved_once(
+        f64::from(ax),
+        f64::from(ay),
+        f64::from(bx),
+        f64::from(by),
+        px,
+        py,
+    )
 }
 
 // What the ray from p to the right says of a segment, by 01's eight steps: p is on the segment, or

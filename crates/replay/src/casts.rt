@@ -1,86 +1,50 @@
 // Questions on boxes and segments.
-ghost use Rattle.std.specs.Prelude.{◌≤◌, length};
-
-use boxes::{Chosen, I32Point, Point, Rect, Segment, choose_quad};
-use lines::fields::{Field, ends, is, number, start};
+use boxes::{I32Point, Point, Rect, Segment, choose_quad};
+use lines::fields::Fields;
 use lines::print;
-use lines::signed::{coordinate, float_of, is_coordinate, signed};
 use rays::{RaycastResult, raycast};
 use std::io;
 
-// Two floats and where they end.
-#[derive(Clone, Copy)]
-struct PointField {
-    at: Point,
-    last: Field,
+// Two floats.
+fn point(fields: &mut Fields) -> Option<Point> {
+    let x = fields.float()?;
+    let y = fields.float()?;
+    Some(Point { x, y })
 }
 
-fn point(line: &[u8], before: Field) -> PointField {
-    let x = number(line, before);
-    let y = number(line, x);
-    PointField {
-        at: Point {
-            x: float_of(x.value),
-            y: float_of(y.value),
-        },
-        last: y,
-    }
+// Four floats.
+fn rect(fields: &mut Fields) -> Option<Rect> {
+    let min = point(fields)?;
+    let max = point(fields)?;
+    Some(Rect { min, max })
 }
 
-// Four floats and where they end.
-#[derive(Clone, Copy)]
-struct RectField {
-    at: Rect,
-    last: Field,
+// A whole number that is a coordinate.
+fn coordinate(fields: &mut Fields) -> Option<i32> {
+    i32::try_from(fields.whole()?).ok()
 }
 
-fn rect(line: &[u8], before: Field) -> RectField {
-    let low = point(line, before);
-    let high = point(line, low.last);
-    let min = low.at;
-    let max = high.at;
-    let last = high.last;
-    RectField {
-        at: Rect { min, max },
-        last,
-    }
+// Two coordinates.
+fn end_point(fields: &mut Fields) -> Option<I32Point> {
+    let x = coordinate(fields)?;
+    let y = coordinate(fields)?;
+    Some(I32Point { x, y })
 }
 
-// Two coordinates and where they end.
-#[derive(Clone, Copy)]
-struct EndField {
-    at: I32Point,
-    last: Field,
+// A segment and a point.
+fn cast_asked(mut fields: Fields) -> Option<(Segment, Point)> {
+    let a = end_point(&mut fields)?;
+    let b = end_point(&mut fields)?;
+    let p = point(&mut fields)?;
+    fields.end()?;
+    Some((Segment { a, b }, p))
 }
 
-fn end_point(line: &[u8], before: Field) -> EndField {
-    let x = number(line, before);
-    let y = number(line, x);
-    let px = signed(x.value);
-    let py = signed(y.value);
-    EndField {
-        at: I32Point {
-            x: coordinate(px),
-            y: coordinate(py),
-        },
-        last: Field {
-            value: y.value,
-            next: y.next,
-            good: y.good & is_coordinate(px) & is_coordinate(py),
-        },
-    }
-}
-
-fn cast(rt: &impl Print, line: &[u8], word: usize) -> io::Result<bool> {
-    let a = end_point(line, start(word));
-    let b = end_point(line, a.last);
-    let p = point(line, b.last);
-    if !ends(line, p.last) {
+fn cast(rt: &impl Print, fields: Fields) -> io::Result<bool> {
+    let Some((segment, p)) = cast_asked(fields) else {
         return Ok(false);
-    }
-    let from = a.at;
-    let to = b.at;
-    match raycast(Segment { a: from, b: to }, p.at) {
+    };
+    match raycast(segment, p) {
         RaycastResult::Neither => print::text(rt, b"neither")?,
         RaycastResult::Inside => print::text(rt, b"inside")?,
         RaycastResult::On => print::text(rt, b"on")?,
@@ -88,28 +52,30 @@ fn cast(rt: &impl Print, line: &[u8], word: usize) -> io::Result<bool> {
     Ok(true)
 }
 
-fn choose(rt: &impl Print, line: &[u8], word: usize) -> io::Result<bool> {
-    let bounds = rect(line, start(word));
-    let segment = rect(line, bounds.last);
-    if !ends(line, segment.last) {
+// Two boxes.
+fn choice_asked(mut fields: Fields) -> Option<(Rect, Rect)> {
+    let bounds = rect(&mut fields)?;
+    let segment = rect(&mut fields)?;
+    fields.end()?;
+    Some((bounds, segment))
+}
+
+fn choose(rt: &impl Print, fields: Fields) -> io::Result<bool> {
+    let Some((bounds, segment)) = choice_asked(fields) else {
         return Ok(false);
-    }
-    match choose_quad(bounds.at, segment.at) {
-        Chosen::Quadrant(q) => print::number(rt, q as u64)?,
-        Chosen::Stays => print::text(rt, b"stays")?,
+    };
+    match choose_quad(bounds, segment) {
+        Some(q) => print::number(rt, q as u64)?,
+        None => print::text(rt, b"stays")?,
     }
     Ok(true)
 }
 
-// Answers a line whose word, which ends at `word`, is of this module; false where it is not.
-pub fn answer(rt: &impl Print, line: &[u8], word: usize) -> io::Result<bool>
-    requires { word ≤ length line.now }
-{
-    if is(line, word, b"raycast") {
-        return cast(rt, line, word);
+// Answers a line whose word is of this module; false where it is not, or where its fields are not good.
+pub fn answer(rt: &impl Print, word: &[u8], fields: Fields) -> io::Result<bool> {
+    match word {
+        b"raycast" => cast(rt, fields),
+        b"choose_quad" => choose(rt, fields),
+        _ => Ok(false),
     }
-    if is(line, word, b"choose_quad") {
-        return choose(rt, line, word);
-    }
-    Ok(false)
 }

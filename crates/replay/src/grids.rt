@@ -1,38 +1,33 @@
 // Questions on rings and whole places.
-ghost use Rattle.std.specs.Prelude.{◌≤◌, length};
-
-use lines::fields::{ends, is, number, start};
+use answers::Answer;
+use lines::fields::Fields;
 use lines::print::said;
-use lines::rings::ring;
-use lines::signed::signed;
 use std::io;
 
-// Answers a line whose word, which ends at `word`, is of this module; false where it is not.
-pub fn answer(rt: &impl Print, line: &[u8], word: usize) -> io::Result<bool>
-    requires { word ≤ length line.now }
-{
-    if !is(line, word, b"grid_ring") {
-        return Ok(false);
-    }
+// What the test says of a line's ring and place; None where its fields are not good.
+fn asked(mut fields: Fields) -> Option<Answer> {
     let mut coords = [0i32; 64];
-    let lent = ring(line, start(word), &mut coords);
-    let points = number(line, lent);
-    let x = number(line, points);
-    let y = number(line, x);
-    let edge = number(line, y);
-    if !ends(line, edge) | (1 < edge.value) {
+    let n = fields.ring(&mut coords)?;
+    let points = fields.count()?;
+    let x = fields.whole()?;
+    let y = fields.whole()?;
+    let edge = fields.yes()?;
+    fields.end()?;
+    Some(grid::grid_ring(&coords[..n], points, x, y, edge))
+}
+
+fn test(rt: &impl Print, fields: Fields) -> io::Result<bool> {
+    let Some(answer) = asked(fields) else {
         return Ok(false);
-    }
-    let count = lent.value as usize;
-    said(
-        rt,
-        grid::grid_ring(
-            &coords[0..count],
-            points.value as usize,
-            signed(x.value),
-            signed(y.value),
-            edge.value == 1,
-        ),
-    )?;
+    };
+    said(rt, answer)?;
     Ok(true)
+}
+
+// Answers a line whose word is of this module; false where it is not, or where its fields are not good.
+pub fn answer(rt: &impl Print, word: &[u8], fields: Fields) -> io::Result<bool> {
+    match word {
+        b"grid_ring" => test(rt, fields),
+        _ => Ok(false),
+    }
 }

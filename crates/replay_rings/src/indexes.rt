@@ -1,33 +1,38 @@
 // Questions on the indexes of a ring: its stripes with their statistics, and its packed tree.
-ghost use Rattle.std.specs.Prelude.{◌≤◌, length};
+ghost use Rattle.std.specs.Prelude.{◌≤◌, length, IfSome};
 
-use lines::fields::{ends, is, number, start};
+use lines::fields::Fields;
 use lines::print;
-use lines::rings::ring;
 use std::io;
-use stripes_build::{StripesBuilt, build_stripes};
-use tree_build::{TreeBuilt, build_tree};
+use stripes_build::build_stripes;
+use tree_build::build_tree;
+
+// The numbers of a line's ring, into the room, its points and the threshold.
+fn asked(mut fields: Fields, coords: &mut [i32]) -> Option<(usize, usize, usize)>
+    ensures { IfSome result (λ r. r.0 ≤ length coords.old) }
+{
+    let n = fields.ring(coords)?;
+    let points = fields.count()?;
+    let threshold = fields.count()?;
+    fields.end()?;
+    Some((n, points, threshold))
+}
 
 // Least and height, then segments, stripes, entries in all, and entries in the fullest stripe.
 fn stripes(rt: &impl Print, coords: &[i32], points: usize, threshold: usize) -> io::Result<()> {
     let mut stripes = [0u32; 256];
     let mut list = [0u32; 4096];
     match build_stripes(coords, points, threshold, &mut stripes, &mut list) {
-        StripesBuilt::Striped(least, height, stats) => {
-            print::float(rt, least)?;
+        Ok(Some(built)) => {
+            print::float(rt, built.least)?;
             print::space(rt)?;
-            print::float(rt, height)?;
-            print::space(rt)?;
-            print::number(rt, stats.segments as u64)?;
-            print::space(rt)?;
-            print::number(rt, stats.stripes as u64)?;
-            print::space(rt)?;
-            print::number(rt, stats.entries as u64)?;
-            print::space(rt)?;
-            print::number(rt, stats.fullest as u64)
+            print::float(rt, built.height)?;
+            let stats = built.stats;
+            print!(rt; " {:016x} {:016x}", stats.segments, stats.stripes)?;
+            print!(rt; " {:016x} {:016x}", stats.entries, stats.fullest)
         }
-        StripesBuilt::Unstriped => print::text(rt, b"none"),
-        StripesBuilt::StripesRefused(r) => print::refused(rt, r),
+        Ok(None) => print::text(rt, b"none"),
+        Err(r) => print::refused(rt, r),
     }
 }
 
@@ -35,38 +40,25 @@ fn tree(rt: &impl Print, coords: &[i32], points: usize, threshold: usize) -> io:
     let mut bytes = [0u8; 1024];
     let mut work = [0u32; 4096];
     match build_tree(coords, points, threshold, &mut bytes, &mut work) {
-        TreeBuilt::Packed(used) => {
-            if 1024 < used {
-                return print::text(rt, b"too long");
-            }
-            print::bytes(rt, &bytes[0..used])
-        }
-        TreeBuilt::Unpacked => print::text(rt, b"none"),
-        TreeBuilt::TreeRefused(r) => print::refused(rt, r),
+        Ok(Some(used)) => match bytes.get(..used) {
+            Some(packed) => print::bytes(rt, packed),
+            None => print::text(rt, b"too long"),
+        },
+        Ok(None) => print::text(rt, b"none"),
+        Err(r) => print::refused(rt, r),
     }
 }
 
-// Answers a line whose word, which ends at `word`, is of this module; false where it is not.
-pub fn answer(rt: &impl Print, line: &[u8], word: usize) -> io::Result<bool>
-    requires { word ≤ length line.now }
-{
+// Answers a line whose word is of this module; false where it is not, or where its fields are not good.
+pub fn answer(rt: &impl Print, word: &[u8], fields: Fields) -> io::Result<bool> {
     let mut coords = [0i32; 64];
-    let lent = ring(line, start(word), &mut coords);
-    let points = number(line, lent);
-    let threshold = number(line, points);
-    if !ends(line, threshold) {
+    let Some((n, points, threshold)) = asked(fields, &mut coords) else {
         return Ok(false);
+    };
+    match word {
+        b"stripes" => stripes(rt, &coords[..n], points, threshold)?,
+        b"tree" => tree(rt, &coords[..n], points, threshold)?,
+        _ => return Ok(false),
     }
-    let n = lent.value as usize;
-    let many = points.value as usize;
-    let least = threshold.value as usize;
-    if is(line, word, b"stripes") {
-        stripes(rt, &coords[0..n], many, least)?;
-        return Ok(true);
-    }
-    if is(line, word, b"tree") {
-        tree(rt, &coords[0..n], many, least)?;
-        return Ok(true);
-    }
-    Ok(false)
+    Ok(true)
 }

@@ -1,43 +1,30 @@
 // The inside question of an outline, with the record and the indexes that the library makes of it.
-ghost use Rattle.std.specs.Prelude.{◌≤◌, length};
-
+use answers::Answer;
 use boxes::Point;
-use lines::fields::{Field, bytes, ends, is, number, start};
+use lines::fields::Fields;
 use lines::print;
-use lines::rings::ring;
-use lines::signed::float_of;
 use outline_ask::inside;
-use outline_build::{Built, build_indexes};
+use outline_build::build_indexes;
 use outline_check::{Outline, RaycastMode};
 use outline_index::BuildOptions;
-use outline_record::{Made, make_boxes};
+use outline_record::make_boxes;
+use outline_ring::Indexes;
 use std::io;
 
-fn wide(b: u8) -> u32 {
-    b as u32
+// What a line asks of which outline.
+#[derive(Clone, Copy)]
+struct Question<'a> {
+    outline: Outline,
+    sizes: &'a [u32],
+    coords: &'a [i32],
+    kinds: u64,
+    p: Point,
+    edge: bool,
 }
 
-// A count that is no more than there is room for.
-fn at_most(n: usize, top: usize) -> usize
-    ensures { result ≤ top }
-{
-    if n < top { n } else { top }
-}
-
-// A byte a ring: its point count.
-fn sizes_of(bytes: &[u8], sizes: &mut [u32]) {
-    let mut i: usize = 0;
-    while i < sizes.len() {
-        if i == bytes.len() {
-            return;
-        }
-        sizes[i] = wide(bytes[i]);
-        i += 1;
-    }
-}
-
-fn mode_of(mode: u64) -> RaycastMode {
-    if mode == 1 {
+// `capi` reads its mode and options off C's numbers, here they are fields of a line: two lines each, no plainer as one.
+fn mode_of(integer: bool) -> RaycastMode {
+    if integer {
         RaycastMode::Integer
     } else {
         RaycastMode::Float
@@ -53,134 +40,83 @@ fn options_of(kinds: u64) -> BuildOptions {
     }
 }
 
-// The indexes, then the answer through them.
-fn ask(
-    rt: &impl Print,
-    outline: Outline,
-    sizes: &[u32],
-    coords: &[i32],
-    boxes: &[i32],
-    kinds: u64,
-    p: Point,
-    edge: bool,
-) -> io::Result<()> {
+// The question of a line's fields. Its rings and coordinates are read into the rooms; a byte a ring is its point count.
+fn asked<'a>(
+    mut fields: Fields,
+    sizes: &'a mut [u32; 32],
+    coords: &'a mut [i32; 64],
+) -> Option<Question<'a>> {
+    let mut counts = [0u8; 32];
+    let rings = fields.bytes(&mut counts)?;
+    for (size, count) in sizes.iter_mut().zip(&counts) {
+        *size = u32::from(*count);
+    }
+    let n = fields.ring(coords)?;
+    let scale = fields.float()?;
+    let mode = mode_of(fields.yes()?);
+    let kinds = fields.number()?;
+    let x = fields.float()?;
+    let y = fields.float()?;
+    let edge = fields.yes()?;
+    fields.end()?;
+    if 3 < kinds {
+        return None;
+    }
+    Some(Question {
+        outline: Outline::new_with_mode(scale, mode),
+        sizes: &sizes[..rings],
+        coords: &coords[..n],
+        kinds,
+        p: Point { x, y },
+        edge,
+    })
+}
+
+// The record and the indexes, then the answer through them.
+fn answer_to(q: Question) -> Answer {
+    let mut boxes = [0i32; 128];
+    make_boxes(q.outline, q.sizes, q.coords, &mut boxes)?;
     let mut table = [0u64; 320];
     let mut spans = [0.0; 64];
     let mut stripes = [0u32; 4096];
     let mut list = [0u32; 4096];
     let mut bytes = [0u8; 4096];
     let mut work = [0u32; 4096];
-    match build_indexes(
-        sizes,
-        coords,
-        options_of(kinds),
+    build_indexes(
+        q.sizes,
+        q.coords,
+        options_of(q.kinds),
         &mut table,
         &mut spans,
         &mut stripes,
         &mut list,
         &mut bytes,
         &mut work,
-    ) {
-        Built::Unbuilt(r) => print::refused(rt, r),
-        Built::Indexed(_) => print::said(
-            rt,
-            inside(
-                outline, sizes, coords, boxes, &table, &spans, &stripes, &list, &bytes, p, edge,
-            ),
-        ),
-    }
-}
-
-// The record first.
-fn recorded(
-    rt: &impl Print,
-    outline: Outline,
-    sizes: &[u32],
-    coords: &[i32],
-    kinds: u64,
-    p: Point,
-    edge: bool,
-) -> io::Result<()> {
-    let mut boxes = [0i32; 128];
-    match make_boxes(outline, sizes, coords, &mut boxes) {
-        Made::Unmade(r) => print::refused(rt, r),
-        Made::Rings(_) => ask(rt, outline, sizes, coords, &boxes, kinds, p, edge),
-    }
-}
-
-// Of the rooms that a line was read into, the first so many rings and coordinates.
-fn read(
-    rt: &impl Print,
-    outline: Outline,
-    counts: &[u8],
-    rings: usize,
-    coords: &[i32],
-    numbers: usize,
-    kinds: u64,
-    p: Point,
-    edge: bool,
-) -> io::Result<()> {
-    let mut sizes = [0u32; 32];
-    let many = at_most(at_most(rings, 32), counts.len());
-    let n = at_most(numbers, coords.len());
-    sizes_of(&counts[0..many], &mut sizes);
-    let told = at_most(many, 32);
-    recorded(rt, outline, &sizes[0..told], &coords[0..n], kinds, p, edge)
-}
-
-// The fields behind the coordinates; false where they are not good.
-fn asked(
-    rt: &impl Print,
-    line: &[u8],
-    counts: &[u8],
-    many: usize,
-    coords: &[i32],
-    lent: Field,
-) -> io::Result<bool> {
-    let scale = number(line, lent);
-    let mode = number(line, scale);
-    let kinds = number(line, mode);
-    let x = number(line, kinds);
-    let y = number(line, x);
-    let edge = number(line, y);
-    if !ends(line, edge) | (1 < edge.value) | (1 < mode.value) | (3 < kinds.value) {
-        return Ok(false);
-    }
-    let outline = Outline::new_with_mode(float_of(scale.value), mode_of(mode.value));
-    let p = Point {
-        x: float_of(x.value),
-        y: float_of(y.value),
-    };
-    let n = lent.value as usize;
-    read(
-        rt,
-        outline,
-        counts,
-        many,
-        coords,
-        n,
-        kinds.value,
-        p,
-        edge.value == 1,
     )?;
+    let lent = Indexes {
+        table: &table,
+        spans: &spans,
+        stripes: &stripes,
+        list: &list,
+        bytes: &bytes,
+    };
+    inside(q.outline, q.sizes, q.coords, &boxes, lent, q.p, q.edge)
+}
+
+fn test(rt: &impl Print, fields: Fields) -> io::Result<bool> {
+    let mut sizes = [0u32; 32];
+    let mut coords = [0i32; 64];
+    let Some(question) = asked(fields, &mut sizes, &mut coords) else {
+        return Ok(false);
+    };
+    print::said(rt, answer_to(question))?;
     Ok(true)
 }
 
-// The coordinates, behind the sizes.
-fn with_rings(rt: &impl Print, line: &[u8], counts: &[u8], rings: Field) -> io::Result<bool> {
-    let mut coords = [0i32; 64];
-    let lent = ring(line, rings, &mut coords);
-    asked(rt, line, counts, rings.value as usize, &coords, lent)
-}
-
-// Answers a line whose word, which ends at `word`, is of this module; false where it is not.
-pub fn answer(rt: &impl Print, line: &[u8], word: usize) -> io::Result<bool>
-    requires { word ≤ length line.now }
-{
-    if !is(line, word, b"inside") {
-        return Ok(false);
+// Answers a line whose word is of this module; false where it is not, or where its fields are not good.
+pub fn answer(rt: &impl Print, word: &[u8], fields: Fields) -> io::Result<bool> {
+    match word {
+        b"inside" => test(rt, fields),
+        _ => Ok(false),
     }
-    let mut counts = [0u8; 32];
-    let rings = bytes(line, start(word), &mut counts);
-    with_rings(rt, line, &counts, rings)
 }

@@ -1,4 +1,5 @@
 -- Laws of the checks on a ring. Assumes nothing.
+use Rattle.std.specs.Prelude.{Ok}
 use Prim.Native.Nat.{ℕ, ◌*◌, ◌≤◌}
 use mathlib.Core.Path.{◌≡◌, refl}
 use mathlib.Core.List.{List}
@@ -9,8 +10,7 @@ use lib.Dec.{ltb, eqb}
 use borrow.Author.Tests.{ltb-false, eqb-true, not-true}
 use Rattle.answers.specs.declared.Refusal.{Refusal}
 use Rattle.answers.specs.declared.Refusal.TheVariants.{TooFew, TooMany, SizesDiffer, NotClosed}
-use Rattle.rings.specs.declared.Checked.{Checked}
-use Rattle.rings.specs.declared.Checked.TheVariants.{Sound}
+use Rattle.rings.specs.Checks.{Checked}
 use Rattle.rings.specs.Checks.{closed, holding, ring_checked}
 
 -- the two sides of a test that holds
@@ -28,11 +28,11 @@ pub record Accepted (ring : List ℤ) (points : ℕ) : Type 0 where
   pub shut : closed ring points ≡ true
 
 -- a rule before others, where all is sound
-held : (t : Bool) (why : Refusal) (later : Checked) → holding t why later ≡ Sound → (t ≡ true) × (later ≡ Sound)
+held : (t : Bool) (why : Refusal) (later : Checked) → holding t why later ≡ Ok tt → (t ≡ true) × (later ≡ Ok tt)
 held true why later e = (refl, e)
 held false why later e = (cc, cc)
 
-pub sound_ring : (ring : List ℤ) (points : ℕ) → ring_checked ring points ≡ Sound → Accepted ring points
+pub sound_ring : (ring : List ℤ) (points : ℕ) → ring_checked ring points ≡ Ok tt → Accepted ring points
 unfolding ring_checked
 sound_ring ring points e =
     let one = held (not (ltb points 2)) (TooFew 0) _ e in

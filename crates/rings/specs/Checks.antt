@@ -1,12 +1,9 @@
 -- 01, "What a call says when it says no": the rules for one ring, which is given its point count and is numbered 0.
-use Rattle.std.specs.Prelude.{ℕ, ◌*◌, ◌-◌, List, Bool, true, false, not, ◌&&◌, eqb, ltb, length, ℤ, pos, negsuc}
+use Rattle.std.specs.Prelude.{Result, Ok, Err, ℕ, ◌*◌, ◌-◌, List, Bool, true, false, not, ◌&&◌, eqb, ltb, length, ℤ, pos, negsuc}
 use Rattle.answers.specs.declared.Refusal.{Refusal}
 use Rattle.answers.specs.declared.Refusal.TheVariants.{TooFew, TooMany, SizesDiffer, NotClosed}
-use Rattle.answers.specs.declared.Answer.{Answer}
-use Rattle.answers.specs.declared.Answer.TheVariants.{Refused}
+use Rattle.answers.specs.Answers.{Answer}
 use Rattle.boxes.specs.declared.I32Point.{I32Point}
-use Rattle.rings.specs.declared.Checked.{Checked}
-use Rattle.rings.specs.declared.Checked.TheVariants.{Sound, Faulty}
 use Rattle.rings.specs.Ring.{point_at}
 
 -- "2 to 4,097 points a ring"
@@ -29,10 +26,14 @@ same_point p q = eq_z p.x q.x && eq_z p.y q.y
 abbrev pub closed : List ℤ → ℕ → Bool
 closed ring points = same_point (point_at ring 0) (point_at ring (points - 1))
 
+-- what the checks find: nothing, or the first fault
+abbrev pub Checked : Type 0
+Checked = Result (Unit {0}) Refusal
+
 -- a rule that holds leaves the answer to the rules after it; one that does not refuses
 abbrev pub holding : Bool → Refusal → Checked → Checked
 holding true why later = later
-holding false why later = Faulty why
+holding false why later = Err why
 
 -- rules 1 to 4, in order
 unfoldable pub ring_checked : List ℤ → ℕ → Checked
@@ -40,14 +41,14 @@ ring_checked ring points =
     holding (not (ltb points min_points)) (TooFew 0)
     (holding (not (ltb max_points points)) (TooMany 0)
     (holding (eqb (points * 2) (length ring)) SizesDiffer
-    (holding (closed ring points) (NotClosed 0) Sound)))
+    (holding (closed ring points) (NotClosed 0) (Ok tt))))
 
 -- one check after another: the first fault is named
 abbrev pub then_checked : Checked → Checked → Checked
-then_checked Sound later = later
-then_checked (Faulty why) later = Faulty why
+then_checked (Ok _) later = later
+then_checked (Err why) later = Err why
 
 -- what an inside question answers: the refusal, or what follows where the ring is sound
 abbrev pub when_sound : Checked → Answer → Answer
-when_sound Sound answer = answer
-when_sound (Faulty why) answer = Refused why
+when_sound (Ok _) answer = answer
+when_sound (Err why) answer = Err why

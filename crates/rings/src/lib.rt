@@ -10,9 +10,11 @@ ghost use Rattle.rings.specs.Checks.{closed, ring_checked};
 use answers::Refusal;
 use boxes::{I32Point, Segment};
 use floats::is_finite;
-use room::{zero_fill_u32, zero_from_u32};
 
-// A ring's points are lent as a slice of numbers, so the type holds nothing but the limits of a ring.
+// A ring's points are lent as a slice of numbers, so the type holds nothing but the limits of a ring. Below and in the crates
+// above, that a slice is long enough for its segments stays a `requires` over plain arguments: docs/PROMISES.md names these
+// functions with it in its last table, and a type that carried it would ask more of their callers. Private functions between
+// them take what they are called with.
 #[derive(Clone, Copy)]
 pub struct Ring;
 
@@ -22,26 +24,12 @@ impl Ring {
     pub const MAX_POINTS: usize = 4097;
 }
 
-// What the checks on a ring find.
-#[derive(Clone, Copy)]
-pub enum Checked {
-    Sound,
-    Faulty(Refusal),
-}
-
-// What a listing call answers: how many numbers it listed, or a refusal.
-#[derive(Clone, Copy)]
-pub enum Listed {
-    Count(usize),
-    Unlisted(Refusal),
-}
-
 // Number i of a ring as a float, which holds every i32. For the crates above, which have checked the ring.
 pub fn coordinate(coords: &[i32], i: usize) -> f64
     requires { i < length coords.now }
     ensures { result ≡ wide coords.now i }
 {
-    coords[i] as f64
+    f64::from(coords[i])
 }
 
 // Segment i, from point i to point i + 1. For the crates above, which have checked the ring.
@@ -71,22 +59,22 @@ pub fn is_closed(coords: &[i32], points: usize) -> bool
 }
 
 // Rules 1 to 4 on one ring.
-pub fn check_ring(coords: &[i32], points: usize) -> Checked
+pub fn check_ring(coords: &[i32], points: usize) -> Result<(), Refusal>
     ensures { result ≡ ring_checked coords.now points }
 {
     if points < Ring::MIN_POINTS {
-        return Checked::Faulty(Refusal::TooFew(0));
+        return Err(Refusal::TooFew(0));
     }
     if Ring::MAX_POINTS < points {
-        return Checked::Faulty(Refusal::TooMany(0));
+        return Err(Refusal::TooMany(0));
     }
     if points * 2 != coords.len() {
-        return Checked::Faulty(Refusal::SizesDiffer);
+        return Err(Refusal::SizesDiffer);
     }
     if is_closed(coords, points) {
-        Checked::Sound
+        Ok(())
     } else {
-        Checked::Faulty(Refusal::NotClosed(0))
+        Err(Refusal::NotClosed(0))
     }
 }
 
@@ -95,48 +83,40 @@ pub fn holds_height(coords: &[i32], i: usize, y: f64) -> bool
     requires { i * 2 + 3 < length coords.now }
     ensures { result ≡ holds_height (side_at (wide coords.now) i) y }
 {
-    let a = coords[i * 2 + 1] as f64;
-    let b = coords[i * 2 + 3] as f64;
+    let a = coordinate(coords, i * 2 + 1);
+    let b = coordinate(coords, i * 2 + 3);
     ((a <= y) & (y <= b)) | ((b <= y) & (y <= a))
 }
 
 // The numbers of those among n segments whose height range holds y, into room that holds zeros.
-fn list(coords: &[i32], n: usize, y: f64, out: &mut [u32]) -> Listed
+fn list(coords: &[i32], n: usize, y: f64, out: &mut [u32]) -> Result<usize, Refusal>
     requires { (n ≤ 4096) × (n * 2 + 2 ≤ length coords.now) }
     ensures { listed_in (up_to (λ i. holds_height (side_at (wide coords.now) i) y) n 0) out.old ≡ (result, out.new) }
 {
-    zero_fill_u32(out);
+    out.fill(0);
     let mut k: usize = 0;
-    let mut i: usize = 0;
-    while i < n {
-        if holds_height(coords, i, y) {
-            if out.len() <= k {
-                zero_from_u32(out, 0);
-                return Listed::Unlisted(Refusal::NoRoom);
-            }
-            out[k] = i as u32;
-            k += 1;
-            i += 1;
-        } else {
-            i += 1;
+    for i in 0..n {
+        if !holds_height(coords, i, y) {
+            continue;
         }
+        if out.len() <= k {
+            out.fill(0);
+            return Err(Refusal::NoRoom);
+        }
+        out[k] = i as u32;
+        k += 1;
     }
-    Listed::Count(k)
+    Ok(k)
 }
 
 // Listing by scan.
-pub fn scan(coords: &[i32], points: usize, y: f64, out: &mut [u32]) -> Listed
+pub fn scan(coords: &[i32], points: usize, y: f64, out: &mut [u32]) -> Result<usize, Refusal>
     ensures { scanned coords.now points y out.old ≡ (result, out.new) }
 {
-    let checked = check_ring(coords, points);
-    match checked {
-        Checked::Sound => {
-            if is_finite(y) {
-                list(coords, points - 1, y, out)
-            } else {
-                Listed::Unlisted(Refusal::BadHeight)
-            }
-        }
-        Checked::Faulty(why) => Listed::Unlisted(why),
+    check_ring(coords, points)?;
+    if is_finite(y) {
+        list(coords, points - 1, y, out)
+    } else {
+        Err(Refusal::BadHeight)
     }
 }

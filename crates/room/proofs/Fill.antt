@@ -8,7 +8,7 @@ use native.Mathlib.Numerals.{add-one}
 use lib.ListN.{length, take, drop, set, replicate, length-set, length-take, length-append, length-replicate}
 use lib.Seq.{take_all, take-suc-set, append_snoc}
 use borrow.Author.Tests.{le-leb, lt-leb}
-use Rattle.room.specs.Room.{write, pad, room_of}
+use Rattle.room.specs.Room.{padded, write, pad, room_of}
 use Rattle.room.proofs.Write.{write_eq}
 
 module _ {A : Type 0} (z : A) where
@@ -49,21 +49,25 @@ module _ {A : Type 0} (z : A) where
   drop_replicate (suc k) zero = rw zero-sub
   drop_replicate (suc k) (suc n) = rw suc-sub-suc (drop_replicate k n)
 
+  -- the same as a used part and what stands behind it
+  pub padded_filled : (l : List A) (i : ℕ) → padded z (length l) (take i l) ≡ filled l i
+  unfolding padded filled
+  padded_filled l i = let e : length l - length (take i l) ≡ length l - i = omega (arith, length-take i l) in rw e
+
 pub pad_filled : (l : List ℕ) (i : ℕ) → pad (length l) (take i l) ≡ filled 0 l i
-unfolding pad filled
-pad_filled l i = let e : length l - length (take i l) ≡ length l - i = omega (arith, length-take i l) in rw e
+pad_filled l i = padded_filled 0 l i
 
 pub pad_none : (n : ℕ) → pad n [] ≡ replicate n 0
-unfolding pad
+unfolding padded
 pad_none n = rw sub-zero
 
 pub pad_length : (n : ℕ) (xs : List ℕ) → length xs ≤ n → length (pad n xs) ≡ n
-unfolding pad
+unfolding padded
 pad_length n xs h = simp (length-append, length-replicate) (omega arith)
 
 -- a list written at the front of room full of zeros
 pub write_pad : (n : ℕ) (xs : List ℕ) → length xs ≤ n → write (replicate n 0) 0 xs ≡ pad n xs
-unfolding pad
+unfolding padded
 write_pad n xs h =
     write_eq (replicate n 0) 0 xs (simp length-replicate (omega arith))
     ∙ ap (λ (r : List ℕ). xs ++ r) (rw zero-add (drop_replicate 0 (length xs) n))

@@ -14,18 +14,20 @@ struct Split {
     rem: u64,
 }
 
-// One more pair d of binary digits of the number, and so one more digit of its root. There is no branch on it: it is as
-// good as random, so a branch would be guessed wrong every other time.
-fn digit(q: u64, rem: u64, d: u64) -> Split
-    requires { (q < 2 ^ 54) × (rem ≤ 2 * q) × (d < 4) }
-    ensures { Rooted (4 * (q * q + rem) + d) result.q result.rem × (result.q ≤ 2 * q + 1) }
-{
-    let more = rem * 4 + d;
-    let trial = q * 4 + 1;
-    let one = (trial <= more) as u64;
-    Split {
-        q: q * 2 + one,
-        rem: more - trial * one,
+impl Split {
+    // One more pair d of binary digits of the number, and so one more digit of its root. There is no branch on it: it is as
+    // good as random, so a branch would be guessed wrong every other time.
+    fn digit(self, d: u64) -> Split
+        requires { (self.q < 2 ^ 54) × (self.rem ≤ 2 * self.q) × (d < 4) }
+        ensures { Rooted (4 * (self.q * self.q + self.rem) + d) result.q result.rem × (result.q ≤ 2 * self.q + 1) }
+    {
+        let more = self.rem * 4 + d;
+        let trial = self.q * 4 + 1;
+        let one = u64::from(trial <= more);
+        Split {
+            q: self.q * 2 + one,
+            rem: more - trial * one,
+        }
     }
 }
 
@@ -37,18 +39,13 @@ fn whole_root(m: u64) -> Split
     requires { m < 2 ^ 54 }
     ensures { Rooted (m * 2 ^ 54) result.q result.rem }
 {
-    let mut q: u64 = 0;
-    let mut rem: u64 = 0;
+    let mut root = Split { q: 0, rem: 0 };
     let mut left = m;
-    let mut i: u64 = 0;
-    while i < 54 {
-        let s = digit(q, rem, left / PAIR);
-        q = s.q;
-        rem = s.rem;
+    for _ in 0..54u64 {
+        root = root.digit(left / PAIR);
         left = left % PAIR * 4;
-        i += 1;
     }
-    Split { q, rem }
+    root
 }
 
 // 2 ^ 52: in a float's pattern the digits stand below it and the exponent's field from it on, and it is what the leading
@@ -67,15 +64,10 @@ fn scale_subnormal(n: u64) -> Scaled
     requires { (0 < n) × (n < 2 ^ 52) }
     ensures { ScaledTo n result.digits result.field }
 {
-    let mut digits = n;
-    let mut i: u64 = 0;
-    while digits < LEAD {
-        digits = digits * 4;
-        i += 1;
-    }
+    let pairs = 26 - n.ilog2() / 2;
     Scaled {
-        digits,
-        field: 512 - i,
+        digits: n * 4u64.pow(pairs),
+        field: 512 - u64::from(pairs),
     }
 }
 
@@ -106,7 +98,8 @@ fn root_bits(n: u64) -> u64
     s.field * LEAD + ((w.q + 1) / 2 - LEAD)
 }
 
-// IEEE 754's squareRoot, to the nearest float. NaN, both zeros and +infinity stay, and what is below zero gives a NaN.
+// IEEE 754's squareRoot, to the nearest float. NaN, both zeros and +infinity stay, and what is below zero gives a NaN. It stays
+// beside std's `sqrt`: `SquareRoot` of specs/ is the promise, read off IEEE 754, and the digits above are what it is proved of.
 pub fn sqrt(x: f64) -> f64
     ensures meets { SquareRoot binary64 x result }
     ensures computed { result ≡ sqrt_of binary64 x }

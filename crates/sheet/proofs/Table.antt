@@ -5,7 +5,7 @@ use borrow.Author.Tests.{le-ltb}
 use lib.Ieee.{of_int, of_bits, to_bits, le, lt, eq, ne, sub, mul, div, is_nan}
 use Rattle.floats.specs.Next.{next_up_of}
 use Rattle.room.specs.Numbers.{keep, up_to}
-use Rattle.room.specs.Room.{pad, room_of}
+use Rattle.room.specs.Room.{padded, room_of}
 use Rattle.rings.specs.Ring.{meeting}
 use Rattle.rings.specs.Checks.{ring_checked}
 use Rattle.rings.specs.Listing.{listed_in, scanned_by}
@@ -31,7 +31,7 @@ use Rattle.outline_ask.specs.Inside.{holes_from, through_rings, inside_of}
 use Rattle.sheet.specs.Sheet.{SampleSheet}
 
 pub sample_sheet : SampleSheet
-unfolding scanned_by listed_in room_of pad ring_checked tree_built_by from_threshold packed_in nodes append_uvarint inside_of through_rings holes_from scaled_query ring_asked boxes_to box_numbers least_z greatest_z outline_with shape_with scale_checked for_from start_of ring_of packed own_bytes differences tree_of grown stripe_of floor_within mul meeting up_to keep test_from cross is_on is_flip round_to turned turn_of sum_to reversed points_of raycast_of first_steps last_steps ne sub div of_int le lt eq encode encode_in read_uvarint decode size next_up_of of_bits to_bits is_nan
+unfolding scanned_by listed_in room_of padded ring_checked tree_built_by from_threshold packed_in nodes append_uvarint inside_of through_rings holes_from scaled_query ring_asked boxes_to box_numbers least_z greatest_z outline_with shape_with scale_checked for_from start_of ring_of packed own_bytes differences tree_of grown stripe_of floor_within mul meeting up_to keep test_from cross is_on is_flip round_to turned turn_of sum_to reversed points_of raycast_of first_steps last_steps ne sub div of_int le lt eq encode encode_in read_uvarint decode size next_up_of of_bits to_bits is_nan
 sample_sheet =
     record {
       holds_5_5 = λ edge. refl;

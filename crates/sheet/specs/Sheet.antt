@@ -1,24 +1,19 @@
 -- 01, "Sample sheet": the cases marked *, one field a case, each an equation of what a call promises: its answer, and what it leaves in the rooms that it is
 -- lent, whatever stood there. `proofs/Table.antt` proves them all.
+use Rattle.std.specs.Prelude.{Ok, Err, Some}
 use Rattle.std.specs.Prelude.{◌≡◌, List, [], ◌∷◌, ◌++◌, ℕ, ◌≤◌, length, replicate, ℤ, pos, negsuc, Bool, true, false, Float}
 use Rattle.std.specs.Float.{binary64}
 use Rattle.std.specs.Float.Ieee.{of_int, of_bits, to_bits}
 use Rattle.floats.specs.Next.{next_up_of}
 use Rattle.varint.specs.Uvarint.{read_uvarint, append_uvarint}
-use Rattle.varint.specs.declared.AppendUvarint.TheVariants.{Appended}
-use Rattle.varint.specs.declared.ReadUvarint.TheVariants.{Unread}
 use Rattle.boxes.specs.declared.Point.{Point}
-use Rattle.rings.specs.declared.Listed.TheVariants.{Count}
 use Rattle.rings.specs.Listing.{scanned}
-use Rattle.answers.specs.declared.Answer.{Answer}
-use Rattle.answers.specs.declared.Answer.TheVariants.{Yes, No}
+use Rattle.answers.specs.Answers.{Answer}
 use Rattle.answers.specs.declared.Refusal.TheVariants.{Loose}
 use Rattle.turn.specs.declared.Turning.TheVariants.{Anticlockwise, Clockwise, None}
-use Rattle.turn.specs.declared.Turned.TheVariants.{Turns}
 use Rattle.turn.specs.Turn.{turned}
 use Rattle.turn.specs.Order.{reversed}
 use Rattle.stripes_place.specs.Stripe.{stripe_of}
-use Rattle.tree_build.specs.declared.TreeBuilt.TheVariants.{Packed}
 use Rattle.tree_build.specs.Build.{tree_built}
 use Rattle.outline_check.specs.declared.Outline.{Outline}
 use Rattle.outline_check.specs.declared.RaycastMode.{RaycastMode}
@@ -78,36 +73,36 @@ asked mode sizes coords p edge = inside_of (scale_one mode) sizes coords (boxes_
 
 pub record SampleSheet : Type 0 where
   -- "S holds (5,5); (11,5) out. (0,5): out, or in with edge allowed."
-  pub holds_5_5 : (edge : Bool) → asked FloatMode one S (place (pos 5) (pos 5)) edge ≡ Yes
-  pub out_11_5 : (edge : Bool) → asked FloatMode one S (place (pos 11) (pos 5)) edge ≡ No
-  pub edge_excluded : asked FloatMode one S (place (pos 0) (pos 5)) false ≡ No
-  pub edge_allowed : asked FloatMode one S (place (pos 0) (pos 5)) true ≡ Yes
+  pub holds_5_5 : (edge : Bool) → asked FloatMode one S (place (pos 5) (pos 5)) edge ≡ Ok true
+  pub out_11_5 : (edge : Bool) → asked FloatMode one S (place (pos 11) (pos 5)) edge ≡ Ok false
+  pub edge_excluded : asked FloatMode one S (place (pos 0) (pos 5)) false ≡ Ok false
+  pub edge_allowed : asked FloatMode one S (place (pos 0) (pos 5)) true ≡ Ok true
   -- "H: (5,5) out, (1,1) in, (2,5) in under both rules."
-  pub in_hole : (edge : Bool) → asked FloatMode two H (place (pos 5) (pos 5)) edge ≡ No
-  pub around_hole : (edge : Bool) → asked FloatMode two H (place (pos 1) (pos 1)) edge ≡ Yes
-  pub on_rim : (edge : Bool) → asked FloatMode two H (place (pos 2) (pos 5)) edge ≡ Yes
+  pub in_hole : (edge : Bool) → asked FloatMode two H (place (pos 5) (pos 5)) edge ≡ Ok false
+  pub around_hole : (edge : Bool) → asked FloatMode two H (place (pos 1) (pos 1)) edge ≡ Ok true
+  pub on_rim : (edge : Bool) → asked FloatMode two H (place (pos 2) (pos 5)) edge ≡ Ok true
   -- "Integer, S: (9.5,5) snaps to the edge; (-0.5,5) snaps to x = -1, out."
   pub snaps_to_edge : scaled_query (scale_one IntegerMode) near_edge ≡ Grid (pos 10) (pos 5)
-  pub snapped_excluded : asked IntegerMode one S near_edge false ≡ No
-  pub snapped_allowed : asked IntegerMode one S near_edge true ≡ Yes
+  pub snapped_excluded : asked IntegerMode one S near_edge false ≡ Ok false
+  pub snapped_allowed : asked IntegerMode one S near_edge true ≡ Ok true
   pub snaps_away : scaled_query (scale_one IntegerMode) left_of ≡ Grid (negsuc 0) (pos 5)
-  pub snapped_out : (edge : Bool) → asked IntegerMode one S left_of edge ≡ No
+  pub snapped_out : (edge : Bool) → asked IntegerMode one S left_of edge ≡ Ok false
   -- "Lists in S: y 0 gives 0,1,3; y 10 gives 1,2,3; y -1 none."
-  pub list_at_0 : (room : List ℕ) → length room ≡ 4 → scanned S 5 (whole (pos 0)) room ≡ (Count 3, 0 ∷ 1 ∷ 3 ∷ 0 ∷ [])
-  pub list_at_10 : (room : List ℕ) → length room ≡ 4 → scanned S 5 (whole (pos 10)) room ≡ (Count 3, 1 ∷ 2 ∷ 3 ∷ 0 ∷ [])
-  pub list_below : (room : List ℕ) → length room ≡ 4 → scanned S 5 (whole (negsuc 0)) room ≡ (Count 0, 0 ∷ 0 ∷ 0 ∷ 0 ∷ [])
+  pub list_at_0 : (room : List ℕ) → length room ≡ 4 → scanned S 5 (whole (pos 0)) room ≡ (Ok 3, 0 ∷ 1 ∷ 3 ∷ 0 ∷ [])
+  pub list_at_10 : (room : List ℕ) → length room ≡ 4 → scanned S 5 (whole (pos 10)) room ≡ (Ok 3, 1 ∷ 2 ∷ 3 ∷ 0 ∷ [])
+  pub list_below : (room : List ℕ) → length room ≡ 4 → scanned S 5 (whole (negsuc 0)) room ≡ (Ok 0, 0 ∷ 0 ∷ 0 ∷ 0 ∷ [])
   -- "S packs to 04 00 01 01 01 00.": built from any threshold that its four segments reach, in the ten work numbers that one node and four segments call for
   pub packs : (threshold : ℕ) → threshold ≤ 4 → (bytes work : List ℕ) → length bytes ≡ 8 → length work ≡ 10
-      → tree_built S 5 threshold bytes work ≡ (Packed 6, 0x04 ∷ 0x00 ∷ 0x01 ∷ 0x01 ∷ 0x01 ∷ 0x00 ∷ 0 ∷ 0 ∷ [], replicate 10 0)
+      → tree_built S 5 threshold bytes work ≡ (Ok (Some 6), 0x04 ∷ 0x00 ∷ 0x01 ∷ 0x01 ∷ 0x01 ∷ 0x00 ∷ 0 ∷ 0 ∷ [], replicate 10 0)
   -- "300 is AC 02." "80 00 refuses 15, place 0 (CR 6)."
-  pub three_hundred : (room : List ℕ) → length room ≡ 3 → append_uvarint room 0 300 ≡ (Appended 2, 0xAC ∷ 0x02 ∷ 0 ∷ [])
-  pub eighty_nought : read_uvarint 64 (0x80 ∷ 0x00 ∷ []) 0 ≡ Unread (Loose 0)
+  pub three_hundred : (room : List ℕ) → length room ≡ 3 → append_uvarint room 0 300 ≡ (Ok 2, 0xAC ∷ 0x02 ∷ 0 ∷ [])
+  pub eighty_nought : read_uvarint 64 (0x80 ∷ 0x00 ∷ []) 0 ≡ Err (Loose 0)
   -- "S is anticlockwise, S reversed clockwise; (0,0) (5,5) (0,0) and one point repeated have no turn."
-  pub turns : turned S 5 ≡ Turns Anticlockwise
+  pub turns : turned S 5 ≡ Ok Anticlockwise
   pub backwards : reversed S 5 ≡ S_reversed
-  pub turns_back : turned S_reversed 5 ≡ Turns Clockwise
-  pub flat : turned to_and_fro 3 ≡ Turns None
-  pub still : turned one_point 4 ≡ Turns None
+  pub turns_back : turned S_reversed 5 ≡ Ok Clockwise
+  pub flat : turned to_and_fro 3 ≡ Ok None
+  pub still : turned one_point 4 ≡ Ok None
   -- "Stripe of 5, 10 with least 0, height 10, 32 stripes: 16, 31."
   pub stripe_of_5 : stripe_of (whole (pos 5)) (whole (pos 0)) (whole (pos 10)) 32 ≡ 16
   pub stripe_of_10 : stripe_of (whole (pos 10)) (whole (pos 0)) (whole (pos 10)) 32 ≡ 31

@@ -1,29 +1,23 @@
 // "4,097 points pass, 4,098 give 2. Integer mode takes any i32, 1,073,741,824 too (CR 14)."
-use crate::print::{refused, text};
 use outline_check::{Outline, RaycastMode, check_outline};
-use rings::Checked;
 use std::io;
 
 fn checked(rt: &impl Print, outline: Outline, sizes: &[u32], coords: &[i32]) -> io::Result<()> {
     match check_outline(outline, sizes, coords) {
-        Checked::Sound => text(rt, b"passes")?,
-        Checked::Faulty(r) => refused(rt, r)?,
+        Ok(()) => println!(rt; "passes"),
+        Err(r) => println!(rt; "{r}"),
     }
-    text(rt, b"\n")
+}
+
+// A ring of that many points, all at (0, 0).
+fn points(rt: &impl Print, coords: &[i32], n: u32) -> io::Result<()> {
+    print!(rt; "{n} points: ")?;
+    checked(rt, Outline::new(1.0), &[n], coords)
 }
 
 pub fn most_points(rt: &impl Print) -> io::Result<()> {
-    let coords = [0i32; 8194];
-    let sizes = [4097u32];
-    text(rt, b"4097 points: ")?;
-    checked(rt, Outline::new(1.0), &sizes, &coords)
-}
-
-pub fn too_many_points(rt: &impl Print) -> io::Result<()> {
-    let coords = [0i32; 8196];
-    let sizes = [4098u32];
-    text(rt, b"4098 points: ")?;
-    checked(rt, Outline::new(1.0), &sizes, &coords)
+    points(rt, &[0i32; 8194], 4097)?;
+    points(rt, &[0i32; 8196], 4098)
 }
 
 // A triangle with one corner at (x, 0).
@@ -34,12 +28,12 @@ fn reaching(rt: &impl Print, mode: RaycastMode, x: i32) -> io::Result<()> {
 }
 
 pub fn coordinates(rt: &impl Print) -> io::Result<()> {
-    text(rt, b"coordinate 1073741824 in Integer mode: ")?;
+    print!(rt; "coordinate 1073741824 in Integer mode: ")?;
     reaching(rt, RaycastMode::Integer, 1073741824)?;
-    text(rt, b"coordinate 2147483647 in Integer mode: ")?;
+    print!(rt; "coordinate 2147483647 in Integer mode: ")?;
     reaching(rt, RaycastMode::Integer, 2147483647)?;
-    text(rt, b"coordinate -2147483648 in Integer mode: ")?;
+    print!(rt; "coordinate -2147483648 in Integer mode: ")?;
     reaching(rt, RaycastMode::Integer, -2147483648)?;
-    text(rt, b"coordinate 1073741824 in Float mode: ")?;
+    print!(rt; "coordinate 1073741824 in Float mode: ")?;
     reaching(rt, RaycastMode::Float, 1073741824)
 }

@@ -1,13 +1,8 @@
 // "12 segments make a leaf; 13 split. 13 segments that are all one same point go to depth 64."
 ghost use Rattle.std.specs.Prelude.{◌*◌, ◌≤◌, length};
 
-use crate::print::{count, first_bytes, refused, text};
 use std::io;
-use tree_build::{TreeBuilt, build_tree};
-
-fn up_to_24(n: usize) -> usize {
-    if n < 24 { n } else { 24 }
-}
+use tree_build::build_tree;
 
 // How many bytes the tree of a ring takes, and the first 24 of them.
 fn tree_in(
@@ -18,25 +13,24 @@ fn tree_in(
     work: &mut [u32],
 ) -> io::Result<()> {
     match build_tree(coords, points, 0, bytes, work) {
-        TreeBuilt::Packed(used) => {
-            count(rt, used)?;
-            text(rt, b" bytes:")?;
-            first_bytes(rt, bytes, up_to_24(used))?;
+        Ok(Some(used)) => {
+            print!(rt; "{used} bytes:")?;
+            for b in bytes.iter().take(used.min(24)) {
+                print!(rt; " {b:02x}")?;
+            }
+            println!(rt)
         }
-        TreeBuilt::Unpacked => text(rt, b"none")?,
-        TreeBuilt::TreeRefused(r) => refused(rt, r)?,
+        Ok(None) => println!(rt; "none"),
+        Err(r) => println!(rt; "{r}"),
     }
-    text(rt, b"\n")
 }
 
 // Along the x axis by ones. What stands behind is zero, so the last segment goes back to the start.
 fn along(coords: &mut [i32], segments: usize)
     requires { (segments * 2 ≤ length coords.old) × (segments ≤ 13) }
 {
-    let mut i: usize = 0;
-    while i < segments {
+    for i in 0..segments {
         coords[i * 2] = i as i32;
-        i += 1;
     }
 }
 
@@ -46,8 +40,7 @@ fn row(rt: &impl Print, coords: &mut [i32], segments: usize) -> io::Result<()>
     along(coords, segments);
     let mut bytes = [0u8; 32];
     let mut work = [0u32; 32];
-    count(rt, segments)?;
-    text(rt, b" segments: ")?;
+    print!(rt; "{segments} segments: ")?;
     tree_in(rt, coords, segments + 1, &mut bytes, &mut work)
 }
 
@@ -59,19 +52,17 @@ pub fn rows(rt: &impl Print) -> io::Result<()> {
     row(rt, &mut long, 13)
 }
 
-// All 13 go north-east each time. Depths 0 to 64 are 65 nodes, for which 65 * 6 + 13 = 403 work numbers are called for.
-pub fn one_point(rt: &impl Print) -> io::Result<()> {
+// 13 segments of one point, in that much work room. All 13 go north-east each time.
+fn one_point_in(rt: &impl Print, work: &mut [u32]) -> io::Result<()> {
     let ring = [0i32; 28];
     let mut bytes = [0u8; 444];
-    let mut work = [0u32; 403];
-    text(rt, b"13 segments of one point, 403 work numbers: ")?;
-    tree_in(rt, &ring, 14, &mut bytes, &mut work)
+    let numbers = work.len();
+    print!(rt; "13 segments of one point, {numbers} work numbers: ")?;
+    tree_in(rt, &ring, 14, &mut bytes, work)
 }
 
-pub fn one_point_short(rt: &impl Print) -> io::Result<()> {
-    let ring = [0i32; 28];
-    let mut bytes = [0u8; 444];
-    let mut work = [0u32; 402];
-    text(rt, b"13 segments of one point, 402 work numbers: ")?;
-    tree_in(rt, &ring, 14, &mut bytes, &mut work)
+// Depths 0 to 64 are 65 nodes, for which 65 * 6 + 13 = 403 work numbers are called for.
+pub fn one_point(rt: &impl Print) -> io::Result<()> {
+    one_point_in(rt, &mut [0u32; 403])?;
+    one_point_in(rt, &mut [0u32; 402])
 }

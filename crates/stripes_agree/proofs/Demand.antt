@@ -1,5 +1,6 @@
 -- Demand 3 for stripes: searching the index built from a ring finds, for every y, exactly the segments whose own closed height range holds y, each
 -- once, by rising number. Assumes nothing.
+use Rattle.std.specs.Prelude.{Ok}
 use mathlib.Core.Path.{◌≡◌, refl, sym, ap, ap₂, ◌∙◌}
 use mathlib.Core.List.{List, [], ◌++◌, append-nil}
 use Prim.Native.Nat.{ℕ, ◌+◌, ◌*◌, ◌≤◌, ◌<◌}
@@ -10,18 +11,16 @@ use lib.Seq.{take-append_seam}
 use lib.IntN.{ℤ}
 use lib.Ieee.{Float}
 use Rattle.room.specs.Numbers.{up_to}
-use Rattle.room.specs.Room.{pad}
+use Rattle.room.specs.Room.{padded, pad}
 use Rattle.rings.specs.Ring.{wide, side_at, segments, holds_height, meeting}
 use Rattle.rings.specs.I32s.{I32s}
 use Rattle.rings.specs.Checks.{ring_checked}
-use Rattle.rings.specs.declared.Checked.TheVariants.{Sound}
 use Rattle.rings.proofs.Checks.{sound_ring}
 use Rattle.stripes_count.specs.Count.{stripe_count}
 use Rattle.stripes_count.proofs.Least.{some_stripes}
 use Rattle.stripes_build.specs.declared.StripesStats.{StripesStats}
-use Rattle.stripes_build.specs.declared.StripesBuilt.TheVariants.{Striped}
 use Rattle.stripes_index.specs.Index.{part_of, list_of, table_of, least_y, height_y, crosses}
-use Rattle.stripes_build.specs.Build.{crosses_in, stripes_built}
+use Rattle.stripes_build.specs.Build.{striped, crosses_in, stripes_built}
 use Rattle.stripes_index.proofs.Pairs.{pairs_length}
 use Rattle.stripes_build.proofs.Building.{Indexed, built_is}
 use Rattle.stripes_find.specs.Search.{complete, searched}
@@ -43,12 +42,12 @@ module _ (ring : List ℤ) (n m : ℕ) (long : n * 2 + 2 ≤ length ring) (nums 
 
 -- ---- in the used part of the room that building filled
 pad_used : (n : ℕ) (xs : List ℕ) (k : ℕ) → length xs ≡ k → take k (pad n xs) ≡ xs
-unfolding pad
+unfolding padded
 pad_used n xs k e = rw (← e) (take-append_seam xs _)
 
 module _ (ring : List ℤ) (points threshold : ℕ) (nums : I32s ring) (stripes list : List ℕ) (least height : Float) (stats : StripesStats) (s l : List ℕ)
-    (built : stripes_built ring points threshold stripes list ≡ (Striped least height stats, s, l)) (y : Float) where
-  pub built_sound : ring_checked ring points ≡ Sound
+    (built : stripes_built ring points threshold stripes list ≡ (striped least height stats, s, l)) (y : Float) where
+  pub built_sound : ring_checked ring points ≡ Ok tt
   built_sound = (built_is (wide ring) (segments points) stripes list least height stats s l _ points threshold refl built).0
 
   pub finds_meeting : searched (wide ring) (segments points) least height (take (stats.stripes * 2) s) (take stats.entries l) y

@@ -10,15 +10,14 @@ use lib.Ieee.Scale.{finite}
 use Rattle.rings.specs.Ring.{wide, meeting}
 use Rattle.rings.specs.I32s.{I32s}
 use Rattle.stripes_build.specs.declared.StripesStats.{StripesStats}
-use Rattle.stripes_build.specs.declared.StripesBuilt.TheVariants.{Striped}
-use Rattle.stripes_build.specs.Build.{stripes_built}
+use Rattle.stripes_build.specs.Build.{striped, stripes_built}
 use Rattle.stripes_find.specs.Search.{Reading, complete}
 use Rattle.stripes_find.specs.Listing.{poured, stripes_listed}
 use Rattle.stripes_find.proofs.Pouring.{listed_sound}
 use Rattle.stripes_agree.proofs.Demand as found
 
 module _ (ring : List ℤ) (points threshold : ℕ) (nums : I32s ring) (stripes list : List ℕ) (least height : Float) (stats : StripesStats) (s l : List ℕ)
-    (built : stripes_built ring points threshold stripes list ≡ (Striped least height stats, s, l)) (y : Float) where
+    (built : stripes_built ring points threshold stripes list ≡ (striped least height stats, s, l)) (y : Float) where
   -- the listing call lists the segments whose own range holds y, in any room that takes them
   pub demand_3 : (out : List ℕ) → finite y ≡ true
       → stripes_listed ring points least height (take (stats.stripes * 2) s) (take stats.entries l) y out

@@ -1,4 +1,7 @@
 -- The part of a stripe, by the tests on the way to it, and what is then read. Assumes nothing.
+use Rattle.std.specs.Prelude.{Ok, Err}
+use Rattle.answers.specs.declared.Refusal.TheVariants.{Damaged}
+use Rattle.answers.specs.declared.Refusal.{Refusal}
 use mathlib.Core.Path.{◌≡◌, refl, sym, ap, ap₂}
 use mathlib.Core.Bool.{Bool, true, false, cond}
 use mathlib.Core.List.{List, []}
@@ -10,13 +13,11 @@ use lib.Dec.{ltb, eqb}
 use lib.Ieee.{Float}
 use borrow.Author.Tests.{eq-eqb, ne_eqb, lt-ltb, le-ltb, ltb-false}
 use Rattle.stripes_place.specs.Stripe.{stripe_of}
-use Rattle.stripes_find.specs.declared.Part.{Part}
-use Rattle.stripes_find.specs.declared.Part.TheVariants.{Run, Broken}
 use Rattle.stripes_find.specs.Search.{Reading, damaged_at, found_in, end_in, read_stripe}
-use Rattle.stripes_find.specs.Inner.Part.{part_at}
+use Rattle.stripes_find.specs.Inner.Part.{Part, part_at}
 
 module _ (least height : Float) (stripes : List ℕ) (long : ℕ) (y : Float) where
-  pub part_none : length stripes / 2 ≡ 0 → part_at least height stripes long y ≡ Broken 0
+  pub part_none : length stripes / 2 ≡ 0 → part_at least height stripes long y ≡ Err (Damaged 0)
   unfolding part_at
   part_none e = rw (eq-eqb (length stripes / 2) 0 e)
 
@@ -25,15 +26,18 @@ module _ (least height : Float) (stripes : List ℕ) (long : ℕ) (y : Float) wh
     past_is : start + count ≡ get_or stripes (stripe_of y least height (length stripes / 2) * 2) 0 + get_or stripes (stripe_of y least height (length stripes / 2) * 2 + 1) 0
     past_is = rw (← is) (ap₂ ◌+◌ from many)
 
-    pub part_past : long < start + count → part_at least height stripes long y ≡ Broken long
+    pub part_past : long < start + count → part_at least height stripes long y ≡ Err (Damaged long)
     unfolding part_at
     part_past h = rw (ne_eqb (length stripes / 2) 0 some, ← past_is, lt-ltb long (start + count) h)
 
-    pub part_run : start + count ≤ long → part_at least height stripes long y ≡ Run start (start + count)
+    pub part_run : start + count ≤ long → part_at least height stripes long y ≡ Ok (start, start + count)
     unfolding part_at
-    part_run h = rw (ne_eqb (length stripes / 2) 0 some, ← past_is, le-ltb long (start + count) h) (ap (λ (k : ℕ). Run k (start + count)) (rw (← is) (sym from)))
+    part_run h = rw (ne_eqb (length stripes / 2) 0 some, ← past_is, le-ltb long (start + count) h) (ap (λ (k : ℕ). Ok (k, start + count)) (rw (← is) (sym from)))
 
 -- ---- what is read
+abbrev ran : ℕ → ℕ → Part
+ran start past = Ok (start, past)
+
 two_ways : {A B : Type 0} (P : A → B → Type 0) (e f : Bool) (a a' a'' : A) (b b' b'' : B) → P a b → P a' b' → (f ≡ false → P a'' b'')
     → P (cond e a (cond f a' a'')) (cond e b (cond f b' b''))
 two_ways P true f a a' a'' b b' b'' p q r = p
@@ -41,10 +45,10 @@ two_ways P false true a a' a'' b b' b'' p q r = q
 two_ways P false false a a' a'' b b' b'' p q r = r refl
 
 module _ (n : ℕ) (meets : ℕ → Bool) (least height : Float) (stripes list : List ℕ) (y : Float) where
-  ways : (P : Part → Reading → Type 0) → P (Broken 0) (record { found = []; ending = damaged_at 0 })
-      → P (Broken (length list)) (record { found = []; ending = damaged_at (length list) })
+  ways : (P : Part → Reading → Type 0) → P (Err (Damaged 0)) (record { found = []; ending = damaged_at 0 })
+      → P (Err (Damaged (length list))) (record { found = []; ending = damaged_at (length list) })
       → ((start past : ℕ) → start ≤ past → past ≤ length list
-      → P (Run start past) (record { found = found_in n meets (slice start past list); ending = end_in n start (slice start past list) }))
+      → P (Ok (start, past)) (record { found = found_in n meets (slice start past list); ending = end_in n start (slice start past list) }))
       → P (part_at least height stripes (length list) y) (read_stripe n meets least height stripes list y)
   unfolding part_at read_stripe
   ways P a b c =
@@ -54,40 +58,35 @@ module _ (n : ℕ) (meets : ℕ → Bool) (least height : Float) (stripes list :
       two_ways P (eqb (length stripes / 2) 0) (ltb (length list) (start + count)) _ _ _ _ _ _ a b
       (λ h. c start (start + count) (omega arith) (ltb-false (length list) (start + count) h))
 
-  pub read_broken : (p : ℕ) → part_at least height stripes (length list) y ≡ Broken p
-      → read_stripe n meets least height stripes list y ≡ record { found = []; ending = damaged_at p }
-  read_broken p =
-      ways (λ part r. part ≡ Broken p → r ≡ record { found = []; ending = damaged_at p })
-      (λ e. ap (λ (k : ℕ). record { found = []; ending = damaged_at k }) (same 0 p e))
-      (λ e. ap (λ (k : ℕ). record { found = []; ending = damaged_at k }) (same (length list) p e))
-      (λ start past a b e. absurd (never start past p e))
-    where
-      same : (a b : ℕ) → Broken a ≡ Broken b → a ≡ b
-      same a b e = cc
+  -- a refusal is damage, with its place
+  pub read_broken : (why : Refusal) → part_at least height stripes (length list) y ≡ Err why
+      → (p : ℕ) × (why ≡ Damaged p) × (read_stripe n meets least height stripes list y ≡ record { found = []; ending = damaged_at p })
+  read_broken why =
+      ways (λ part r. part ≡ Err why → (p : ℕ) × (why ≡ Damaged p) × (r ≡ record { found = []; ending = damaged_at p }))
+      (λ e. (0, cc, refl))
+      (λ e. (length list, cc, refl))
+      (λ start past a b e. cc)
 
-      never : (a b p : ℕ) → Run a b ≡ Broken p → ⊥
-      never a b p e = let z : ◌≡◌ {A = ℕ} 0 1 = cc in omega arith
-
-  pub read_run : (start past : ℕ) → part_at least height stripes (length list) y ≡ Run start past
+  pub read_run : (start past : ℕ) → part_at least height stripes (length list) y ≡ Ok (start, past)
       → (read_stripe n meets least height stripes list y ≡ record { found = found_in n meets (slice start past list); ending = end_in n start (slice start past list) })
       × (start ≤ past) × (past ≤ length list)
   read_run start past =
       ways
-      (λ part r. part ≡ Run start past
+      (λ part r. part ≡ Ok (start, past)
       → (r ≡ record { found = found_in n meets (slice start past list); ending = end_in n start (slice start past list) }) × (start ≤ past) × (past ≤ length list))
-      (λ e. absurd (never start past 0 (sym e)))
-      (λ e. absurd (never start past (length list) (sym e)))
+      (λ e. cc)
+      (λ e. cc)
       (λ a b h k e. (
         ap₂ (λ (u v : ℕ). record { found = found_in n meets (slice u v list); ending = end_in n u (slice u v list) }) (first a b e) (second a b e),
         omega (arith, first a b e, second a b e),
         omega (arith, second a b e),
       ))
     where
-      never : (a b p : ℕ) → Run a b ≡ Broken p → ⊥
-      never a b p e = let z : ◌≡◌ {A = ℕ} 0 1 = cc in omega arith
+      pair : (a b : ℕ) → ran a b ≡ ran start past → ◌≡◌ {A = ℕ × ℕ} (a, b) (start, past)
+      pair a b e = cc
 
-      first : (a b : ℕ) → Run a b ≡ Run start past → a ≡ start
-      first a b e = cc
+      first : (a b : ℕ) → ran a b ≡ ran start past → a ≡ start
+      first a b e = ap (λ (r : ℕ × ℕ). r.0) (pair a b e)
 
-      second : (a b : ℕ) → Run a b ≡ Run start past → b ≡ past
-      second a b e = cc
+      second : (a b : ℕ) → ran a b ≡ ran start past → b ≡ past
+      second a b e = ap (λ (r : ℕ × ℕ). r.1) (pair a b e)

@@ -9,22 +9,34 @@ ghost use Rattle.stripes_find.specs.Listing.{poured, stripes_listed};
 ghost use Rattle.stripes_find.specs.Inner.Part.{part_at, run_read};
 
 use answers::Refusal;
-use rings::{Checked, holds_height};
-use room::{wide, zero_fill_u32};
+use rings::holds_height;
+use room::wide;
 use stripes_place::stripe_of;
 
-// How many numbers were listed, or a refusal.
+// An index as it is lent: its least y and height, its stripes, two numbers each, and its list. The numbers of a stripe
+// stay side by side in one slice: so C lends them.
 #[derive(Clone, Copy)]
-pub enum StripesListed {
-    StripesFound(usize),
-    StripesUnlisted(Refusal),
+pub struct StripeIndex<'a> {
+    pub least: f64,
+    pub height: f64,
+    pub stripes: &'a [u32],
+    pub list: &'a [u32],
 }
 
-// A part of the list, from a place up to another, or the place of damage.
-#[derive(Clone, Copy)]
-pub enum Part {
-    Run(usize, usize),
-    Broken(usize),
+impl StripeIndex<'_> {
+    // Whether y is outside its least to least+height.
+    pub fn is_outside(self, y: f64) -> bool
+        ensures { result ≡ outside y self.entry.least self.entry.height }
+    {
+        is_outside(y, self.least, self.height)
+    }
+
+    // Where the part of y's stripe lies in its list.
+    pub fn part(self, y: f64) -> Result<(usize, usize), Refusal>
+        ensures { result ≡ part_at self.entry.least self.entry.height self.entry.stripes.now (length self.entry.list.now) y }
+    {
+        stripe_part(self.least, self.height, self.stripes, self.list.len(), y)
+    }
 }
 
 // Whether y is outside least to least+height.
@@ -45,20 +57,26 @@ fn stripe_in(least: f64, height: f64, stripes: &[u32], y: f64) -> usize
     stripe_of(y, least, height, stripes.len() / 2)
 }
 
-// Where the part of y's stripe lies in a list of `long` numbers.
-pub fn stripe_part(least: f64, height: f64, stripes: &[u32], long: usize, y: f64) -> Part
+// Where the part of y's stripe lies in a list of `long` numbers: from a place up to another.
+pub fn stripe_part(
+    least: f64,
+    height: f64,
+    stripes: &[u32],
+    long: usize,
+    y: f64,
+) -> Result<(usize, usize), Refusal>
     ensures { result ≡ part_at least height stripes.now long y }
 {
     if stripes.len() / 2 == 0 {
-        return Part::Broken(0);
+        return Err(Refusal::Damaged(0));
     }
     let s = stripe_in(least, height, stripes, y);
     let start = wide(stripes[s * 2]);
     let past = start + wide(stripes[s * 2 + 1]);
     if long < past {
-        return Part::Broken(long);
+        return Err(Refusal::Damaged(long));
     }
-    Part::Run(start, past)
+    Ok((start, past))
 }
 
 // Lists the numbers of a part whose own height range holds y, in room that is zero.
@@ -70,57 +88,48 @@ fn list_run(
     past: usize,
     y: f64,
     out: &mut [u32],
-) -> StripesListed
+) -> Result<usize, Refusal>
     requires n_in_bounds { (n * 2 + 2 ≤ length ring.now) × (start ≤ past) × (past ≤ length list.now) }
     requires out_value { out.old ≡ replicate (length out.old) 0 }
     ensures { poured (run_read (wide ring.now) n list.now start past y) out.old ≡ (result, out.new) }
 {
     let mut k: usize = 0;
-    let mut at = start;
-    while at < past {
+    for at in start..past {
         let i = wide(list[at]);
         if n <= i {
-            zero_fill_u32(out);
-            return StripesListed::StripesUnlisted(Refusal::Damaged(at));
+            out.fill(0);
+            return Err(Refusal::Damaged(at));
         }
-        if holds_height(ring, i, y) {
-            if out.len() <= k {
-                zero_fill_u32(out);
-                return StripesListed::StripesUnlisted(Refusal::NoRoom);
-            }
-            out[k] = list[at];
-            k += 1;
-            at += 1;
-        } else {
-            at += 1;
+        if !holds_height(ring, i, y) {
+            continue;
         }
+        if out.len() <= k {
+            out.fill(0);
+            return Err(Refusal::NoRoom);
+        }
+        out[k] = list[at];
+        k += 1;
     }
-    StripesListed::StripesFound(k)
+    Ok(k)
 }
 
 // The same of a whole index, in any room, for a ring that passed the checks and a finite y.
 fn list_sound(
     ring: &[i32],
     n: usize,
-    least: f64,
-    height: f64,
-    stripes: &[u32],
-    list: &[u32],
+    index: StripeIndex,
     y: f64,
     out: &mut [u32],
-) -> StripesListed
+) -> Result<usize, Refusal>
     requires { n * 2 + 2 ≤ length ring.now }
-    ensures { poured (searched (wide ring.now) n least height stripes.now list.now y) out.old ≡ (result, out.new) }
+    ensures { poured (searched (wide ring.now) n index.entry.least index.entry.height index.entry.stripes.now index.entry.list.now y) out.old ≡ (result, out.new) }
 {
-    zero_fill_u32(out);
-    if is_outside(y, least, height) {
-        return StripesListed::StripesFound(0);
+    out.fill(0);
+    if index.is_outside(y) {
+        return Ok(0);
     }
-    let part = stripe_part(least, height, stripes, list.len(), y);
-    match part {
-        Part::Broken(place) => StripesListed::StripesUnlisted(Refusal::Damaged(place)),
-        Part::Run(start, past) => list_run(ring, n, list, start, past, y, out),
-    }
+    let (start, past) = index.part(y)?;
+    list_run(ring, n, index.list, start, past, y, out)
 }
 
 // Lists by rising place in its stripe the segments of one ring whose closed height range holds y, as
@@ -129,24 +138,16 @@ fn list_sound(
 pub fn stripes_list(
     coords: &[i32],
     points: usize,
-    least: f64,
-    height: f64,
-    stripes: &[u32],
-    list: &[u32],
+    index: StripeIndex,
     y: f64,
     out: &mut [u32],
-) -> StripesListed
-    ensures { stripes_listed coords.now points least height stripes.now list.now y out.old ≡ (result, out.new) }
+) -> Result<usize, Refusal>
+    ensures { stripes_listed coords.now points index.entry.least index.entry.height index.entry.stripes.now index.entry.list.now y out.old ≡ (result, out.new) }
 {
-    let checked = rings::check_ring(coords, points);
-    match checked {
-        Checked::Faulty(why) => StripesListed::StripesUnlisted(why),
-        Checked::Sound => {
-            if floats::is_finite(y) {
-                list_sound(coords, points - 1, least, height, stripes, list, y, out)
-            } else {
-                StripesListed::StripesUnlisted(Refusal::BadHeight)
-            }
-        }
+    rings::check_ring(coords, points)?;
+    if floats::is_finite(y) {
+        list_sound(coords, points - 1, index, y, out)
+    } else {
+        Err(Refusal::BadHeight)
     }
 }

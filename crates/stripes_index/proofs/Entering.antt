@@ -7,7 +7,7 @@ use native.Mathlib.Omega.{arith}
 use lib.ListN.{length, get_or, set, replicate, length-append, length-replicate, replicate-append-replicate}
 use lib.Dec.{ltb}
 use Rattle.room.specs.Numbers.{cons_if, up_to}
-use Rattle.room.specs.Room.{pad}
+use Rattle.room.specs.Room.{padded, pad}
 use Rattle.room.proofs.Fill.{pad_length, pad_none}
 use Rattle.room.proofs.UpTo.{up_to_split, up_to_done}
 use Rattle.stripes_index.specs.Joined.{joined}
@@ -156,5 +156,5 @@ module _ (cross : ℕ → ℕ → Bool) (m : ℕ) where
       ∙ pad_zeros room (length (joined (λ t. replicate (f t) 0) m)) (omega arith))
 
   pub list_full : (n : ℕ) → list_at_of cross m n n ≡ list_of cross n m
-  unfolding pad
+  unfolding padded
   list_full n = joined_ext _ _ m (λ t l. let e : length (part_of cross n t) - length (part_of cross n t) ≡ 0 = omega arith in rw e (append-nil (part_of cross n t)))

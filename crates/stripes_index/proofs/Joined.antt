@@ -6,7 +6,7 @@ use mathlib.Core.Logic.{⊎_elim}
 use native.Mathlib.Omega.{arith}
 use lib.ListN.{length, get_or, take, drop, set, replicate, length-append, length-set, get_or-append}
 use lib.Seq.{set-append_left, get_or-append-add, drop-append-add, take-append_seam}
-use Rattle.room.specs.Room.{pad}
+use Rattle.room.specs.Room.{padded, pad}
 use Rattle.room.proofs.Cases.{lt_or}
 use Rattle.stripes_index.specs.Joined.{joined}
 
@@ -82,16 +82,16 @@ joined_part f (suc m) t rest h =
 -- ---- the same in room with zeros after it
 module _ (n : ℕ) (xs : List ℕ) where
   pub pad_get : (i : ℕ) → i < length xs → get_or (pad n xs) i 0 ≡ get_or xs i 0
-  unfolding pad
+  unfolding padded
   pad_get i h = get_or-append xs _ 0 i h
 
   pub pad_set : (i v : ℕ) → i < length xs → set (pad n xs) i v ≡ pad n (set xs i v)
-  unfolding pad
+  unfolding padded
   pad_set i v h = rw (length-set) (set-append_left xs _ i v h)
 
 -- one number more
 pub pad_push : (n : ℕ) (xs : List ℕ) (v : ℕ) → length xs < n → set (pad n xs) (length xs) v ≡ pad n (xs ++ (v ∷ []))
-unfolding pad
+unfolding padded
 pad_push n xs v h =
     let z : length xs ≡ length xs + 0 = omega arith in
     let e : n - length xs ≡ suc (n - (length xs + 1)) = omega arith in

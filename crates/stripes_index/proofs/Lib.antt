@@ -6,3 +6,4 @@ pub mod Crossing
 pub mod Starts
 pub mod Entries
 pub mod Ends
+pub mod Picked

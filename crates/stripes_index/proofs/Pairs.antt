@@ -4,7 +4,7 @@ use mathlib.Core.Path.{◌≡◌, refl, sym, ap, ap₂, ◌∙◌}
 use mathlib.Core.List.{List, [], ◌∷◌, ◌++◌}
 use native.Mathlib.Omega.{arith}
 use lib.ListN.{length, get_or, set, replicate, length-append, length-replicate, replicate-append-replicate}
-use Rattle.room.specs.Room.{pad}
+use Rattle.room.specs.Room.{padded, pad}
 use Rattle.stripes_index.specs.Joined.{joined}
 use Rattle.stripes_index.specs.Inner.States.{pairs, none}
 use Rattle.stripes_index.proofs.Joined.{joined_ext, joined_get, joined_set, pad_get, pad_set}
@@ -57,7 +57,7 @@ module _ (n m : ℕ) (a b : ℕ → ℕ) (s : ℕ) (h : s < m) where
 
 -- zeros
 pub pad_zeros : (n k : ℕ) → k ≤ n → pad n (replicate k 0) ≡ replicate n 0
-unfolding pad
+unfolding padded
 pad_zeros n k h =
     let e : k + (n - k) ≡ n = omega arith in
     rw (length-replicate {A = ℕ} k 0) (replicate-append-replicate k (n - k) 0 ∙ ap (λ (j : ℕ). replicate j 0) e)

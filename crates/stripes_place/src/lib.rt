@@ -6,7 +6,9 @@ ghost use Rattle.stripes_place.specs.Stripe.{stripe_of};
 
 use whole::floor_within;
 
-// The stripe that holds y, for any numbers. With no stripes at all it is 0.
+// The stripe that holds y, for any numbers. With no stripes at all it is 0. Its four numbers stay loose: a promised
+// function, which C asks number by number.
+#[tactic(auto, using(crate::proofs::Mono::no_stripes), unfolding(crate::specs::Stripe::stripe_of))]
 pub fn stripe_of(y: f64, least: f64, height: f64, stripes: usize) -> usize
     ensures { result ≡ stripe_of y least height stripes }
 {

@@ -1,6 +1,7 @@
 -- The ring test of the numbers of a stripe, in one pass. Assumes nothing.
+use Rattle.std.specs.Prelude.{Some, None, unwrap_or}
 use mathlib.Core.Path.{◌≡◌, refl, sym, ap, ◌∙◌}
-use mathlib.Core.Bool.{Bool, false, cond}
+use mathlib.Core.Bool.{Bool, false}
 use mathlib.Core.List.{List, []}
 use Prim.Native.Nat.{ℕ, ◌+◌, ◌≤◌, ◌<◌}
 use lib.ListN.{length, get_or}
@@ -9,12 +10,15 @@ use lib.Ieee.{Float}
 use Rattle.room.specs.Numbers.{cons_if}
 use Rattle.boxes.specs.declared.Point.{Point}
 use Rattle.rings.specs.Ring.{side_at, holds_height}
-use Rattle.cast_test.specs.declared.Seen.{Seen}
 use Rattle.cast_test.specs.Test.{test_of}
-use Rattle.cast_test.specs.Inner.Steps.{step_of}
-use Rattle.cast_test.proofs.Steps.{settled, settled_step, settled_done, settled_none}
+use Rattle.cast_test.specs.Inner.Steps.{Seen, step_of}
+use Rattle.cast_test.proofs.Steps.{settled, settled_step, settled_on, settled_done, settled_none}
 use Rattle.stripes_find.specs.Search.{complete, damaged_at, found_in, end_in}
 use Rattle.stripes_find.proofs.Reading.{found_done, end_done, found_more, end_more, end_broken}
+
+settled_end : (ring : ℕ → Float) (p : Point) (edge : Bool) (s : Seen) → settled ring p edge s [] ≡ unwrap_or s edge
+settled_end ring p edge None = settled_on ring p edge []
+settled_end ring p edge (Some inside) = settled_done ring p edge inside
 
 module _ (ring : ℕ → Float) (p : Point) (edge : Bool) (n : ℕ) (list : List ℕ) (start past : ℕ) where
   pub record Testing (s : Seen) (at : ℕ) : Type 0 where
@@ -22,7 +26,7 @@ module _ (ring : ℕ → Float) (p : Point) (edge : Bool) (n : ℕ) (list : List
         ≡ test_of ring p edge (found_in n (λ i. holds_height (side_at ring i) p.y) (slice start past list))
     pub ends : end_in n at (slice at past list) ≡ end_in n start (slice start past list)
 
-  pub testing_start : Testing (record { on = false; inside = false }) start
+  pub testing_start : Testing (Some false) start
   testing_start = record { same = settled_none ring p edge _; ends = refl }
 
   module _ (s : Seen) (at x : ℕ) (l : Testing s at) (h : at < past) (b : past ≤ length list) (is : x ≡ get_or list at 0) where
@@ -39,9 +43,9 @@ module _ (ring : ℕ → Float) (p : Point) (edge : Bool) (n : ℕ) (list : List
     testing_broken k = sym l.ends ∙ end_broken n (λ i. holds_height (side_at ring i) p.y) list past at h b (rw (← is) k)
 
   pub testing_done : (s : Seen) (at : ℕ) → Testing s at → at ≡ past
-      → (cond s.on edge s.inside ≡ test_of ring p edge (found_in n (λ i. holds_height (side_at ring i) p.y) (slice start past list)))
+      → (unwrap_or s edge ≡ test_of ring p edge (found_in n (λ i. holds_height (side_at ring i) p.y) (slice start past list)))
       × (end_in n start (slice start past list) ≡ complete)
   testing_done s at l e =
       let t : ℕ → Bool = λ i. holds_height (side_at ring i) p.y in
       let f : found_in n t (slice at past list) ≡ [] = rw e (found_done n t list past) in
-      (sym (settled_done ring p edge s) ∙ sym (ap (settled ring p edge s) f) ∙ l.same, sym l.ends ∙ rw e (end_done n t list past))
+      (sym (settled_end ring p edge s) ∙ sym (ap (settled ring p edge s) f) ∙ l.same, sym l.ends ∙ rw e (end_done n t list past))

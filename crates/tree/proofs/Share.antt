@@ -1,4 +1,5 @@
 -- Each segment that arrives at a node is its own or goes to one quadrant, so the tree holds each exactly once. Assumes nothing.
+use Rattle.std.specs.Prelude.{Option}
 use Prim.Native.Nat.{ℕ, zero, suc, ◌+◌, ◌*◌, ◌<◌}
 use mathlib.Core.Path.{◌≡◌, refl, ap}
 use mathlib.Core.List.{List, [], ◌∷◌}
@@ -11,7 +12,6 @@ use borrow.Author.Tests.{leb-false}
 use Rattle.room.specs.Numbers.{cons_if, bit, count}
 use Rattle.room.proofs.Count.{count_append}
 use Rattle.boxes.specs.declared.Rect.{Rect}
-use Rattle.boxes.specs.declared.Chosen.{Chosen}
 use Rattle.boxes.specs.Quads.{quadrant, quad_bounds, mid_x, mid_y}
 use Rattle.boxes.specs.Segments.{box_of}
 use Rattle.rings.specs.Ring.{side_at}
@@ -40,7 +40,7 @@ more t x xs = go (t x)
 
 -- what a node shares out
 module _ (ring : ℕ → Float) (box : Rect) where
-  abbrev way : (Chosen → Bool) → ℕ → Bool
+  abbrev way : (Option ℕ → Bool) → ℕ → Bool
   way t i = t (choice ring box i)
 
   one_choice : (i : ℕ) → bit (way is_stayer i) + (bit (way (goes_to 0) i) + bit (way (goes_to 1) i) + bit (way (goes_to 2) i) + bit (way (goes_to 3) i)) ≡ 1

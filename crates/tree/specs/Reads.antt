@@ -1,14 +1,13 @@
 -- What bytes read as, whatever the height that is asked for: the nodes, each with its own segments and its quadrants, as 01 lays them out under "The packed
 -- tree". Nothing here says how long a node is or how a number is written; that follows, by `reads_packed`, since no varint is loose (02, CR 6).
-use Rattle.std.specs.Prelude.{ℕ, ◌+◌, ◌≤◌, ◌<◌, ◌≡◌, List, [], ◌∷◌, length, get_or, take}
+use Rattle.std.specs.Prelude.{Ok, ℕ, ◌+◌, ◌≤◌, ◌<◌, ◌≡◌, List, [], ◌∷◌, length, get_or, take}
 use Rattle.varint.specs.Uvarint.{read_uvarint}
-use Rattle.varint.specs.declared.ReadUvarint.TheVariants.{Value}
 use Rattle.tree.specs.Tree.{Tree, empty, leaf, split}
 
 module _ (bytes : List ℕ) where
   -- the number at p, in a part that ends before `end`, and the place past it
   abbrev pub field_reads : ℕ → ℕ → ℕ → ℕ → Type 0
-  field_reads end p v next = read_uvarint 64 (take end bytes) p ≡ Value v next
+  field_reads end p v next = read_uvarint 64 (take end bytes) p ≡ Ok (v, next)
 
   -- "rising differences from 0"
   unfoldable pub own_reads : ℕ → ℕ → ℕ → List ℕ → ℕ → Type 0

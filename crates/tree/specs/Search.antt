@@ -1,5 +1,5 @@
 -- 01, "The packed tree": searching any bytes at a height, without any room.
-use Rattle.std.specs.Prelude.{ℕ, zero, suc, ◌+◌, List, [], ◌++◌, Bool, true, false, not, cond, ◌||◌, ltb, eqb, length, get_or, take, Float}
+use Rattle.std.specs.Prelude.{Ok, Err, ℕ, zero, suc, ◌+◌, List, [], ◌++◌, Bool, true, false, not, cond, ◌||◌, ltb, eqb, length, get_or, take, Float}
 use Rattle.std.specs.Float.Ieee.{lt}
 use Rattle.boxes.specs.declared.Rect.{Rect}
 use Rattle.boxes.specs.Quads.{quad_bounds}
@@ -7,8 +7,7 @@ use Rattle.rings.specs.Ring.{side_at, holds_height}
 use Rattle.room.specs.Numbers.{cons_if}
 use Rattle.answers.specs.declared.Refusal.{Refusal}
 use Rattle.answers.specs.declared.Refusal.TheVariants.{Damaged}
-use Rattle.varint.specs.declared.ReadUvarint.{ReadUvarint}
-use Rattle.varint.specs.declared.ReadUvarint.TheVariants.{Value, Unread}
+use Rattle.varint.specs.Uvarint.{ReadUvarint}
 use Rattle.varint.specs.Uvarint.{read_uvarint}
 use Rattle.tree.specs.Tree.{max_depth}
 
@@ -39,8 +38,8 @@ meets_height box y = not (lt y box.min.y || lt box.max.y y)
 
 -- what is done with a number that was read
 abbrev pub got : ReadUvarint → (ℕ → ℕ → Found) → Found
-got (Value v p) f = f v p
-got (Unread why) f = ([], fails why)
+got (Ok (v, p)) f = f v p
+got (Err why) f = ([], fails why)
 
 -- "bytes left over": a node's part ends where its reading does
 abbrev pub closed : ℕ → ℕ → Found

@@ -1,9 +1,7 @@
 -- 01, "The packed tree": the tree of a ring, and its bytes.
-use Rattle.std.specs.Prelude.{ℕ, zero, suc, ◌+◌, ◌-◌, ◌*◌, List, [], ◌∷◌, ◌++◌, Bool, true, false, cond, leb, eqb, length, Float}
+use Rattle.std.specs.Prelude.{Option, Some, None, ℕ, zero, suc, ◌+◌, ◌-◌, ◌*◌, List, [], ◌∷◌, ◌++◌, Bool, true, false, cond, leb, eqb, length, Float}
 use Rattle.floats.specs.Values.{lesser_of, greater_of}
 use Rattle.boxes.specs.declared.Rect.{Rect}
-use Rattle.boxes.specs.declared.Chosen.{Chosen}
-use Rattle.boxes.specs.declared.Chosen.TheVariants.{Quadrant, Stays}
 use Rattle.boxes.specs.Quads.{chosen, quad_bounds}
 use Rattle.boxes.specs.Segments.{box_of}
 use Rattle.rings.specs.Ring.{spot_at, side_at, segments, numbers}
@@ -29,16 +27,16 @@ unfoldable pub those : (ℕ → Bool) → List ℕ → List ℕ
 those t [] = []
 those t (x ∷ xs) = cons_if (t x) x (those t xs)
 
-abbrev pub goes_to : ℕ → Chosen → Bool
-goes_to q (Quadrant k) = eqb k q
-goes_to q Stays = false
+abbrev pub goes_to : ℕ → Option ℕ → Bool
+goes_to q (Some k) = eqb k q
+goes_to q None = false
 
-abbrev pub is_stayer : Chosen → Bool
-is_stayer (Quadrant k) = false
-is_stayer Stays = true
+abbrev pub is_stayer : Option ℕ → Bool
+is_stayer (Some k) = false
+is_stayer None = true
 
 -- where segment i of a ring goes from a node with this box
-abbrev pub choice : (ℕ → Float) → Rect → ℕ → Chosen
+abbrev pub choice : (ℕ → Float) → Rect → ℕ → Option ℕ
 choice ring box i = chosen box (box_of (side_at ring i))
 
 -- "stayers are its own"
@@ -69,6 +67,11 @@ least f (suc n) = lesser_of (least f n) (f (suc n))
 unfoldable pub greatest : (ℕ → Float) → ℕ → Float
 greatest f zero = f 0
 greatest f (suc n) = greater_of (greatest f n) (f (suc n))
+
+-- what picking one of two gives over f 0 .. f n: `least` picks the lesser each time, `greatest` the greater
+unfoldable pub picked : (Float → Float → Float) → (ℕ → Float) → ℕ → Float
+picked pick f zero = f 0
+picked pick f (suc n) = pick (picked pick f n) (f (suc n))
 
 -- the ring's box: the least and the greatest x and y of its points
 unfoldable pub ring_box : (ℕ → Float) → ℕ → Rect

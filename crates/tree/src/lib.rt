@@ -1,9 +1,9 @@
 // The packed tree of a ring: its limits, and the box that its root has.
 #![tactic(auto)]
 
-ghost use Rattle.std.specs.Prelude.{◌≡◌, ◌+◌, ◌*◌, ◌<◌, ◌≤◌, length};
+ghost use Rattle.std.specs.Prelude.{◌≡◌, ◌+◌, ◌*◌, ◌<◌, ◌≤◌, length, Float};
 ghost use Rattle.rings.specs.Ring.{wide};
-ghost use Rattle.tree.specs.Tree.{least, greatest, quad_tree_of};
+ghost use Rattle.tree.specs.Tree.{picked, quad_tree_of};
 
 use boxes::{Point, Rect};
 use floats::{greater, lesser};
@@ -16,31 +16,19 @@ pub struct QuadTree {
     pub segments: usize,
 }
 
-// The least of the first coordinates (offset 0) or of the second ones (offset 1), up to point `last`.
-fn least_of(coords: &[i32], offset: usize, last: usize) -> f64
-    requires { last * 2 + offset < length coords.now }
-    ensures { result ≡ least (λ i. wide coords.now (i * 2 + offset)) last }
+// Of the first coordinates (offset 0) or of the second ones (offset 1), up to point `last`: the first point's, and at each
+// point after it what `pick` makes of the pick so far and of this point's. The offset is a number and no enum: it is added to
+// an index.
+fn pick_of<F: Fn(f64, f64) -> f64>(coords: &[i32], offset: usize, last: usize, pick: F) -> f64
+    requires last_in_bounds { last * 2 + offset < length coords.now }
+    requires callable { F.IsAlwaysCallable pick }
+    ensures { (t : Float → Float → Float) → ((a b r : Float) → F.post pick a b r → r ≡ t a b) → result ≡ picked t (λ i. wide coords.now (i * 2 + offset)) last }
 {
-    let mut low = coordinate(coords, offset);
-    let mut i: usize = 0;
-    while i < last {
-        i += 1;
-        low = lesser(low, coordinate(coords, i * 2 + offset));
+    let mut so_far = coordinate(coords, offset);
+    for i in 0..last {
+        so_far = pick(so_far, coordinate(coords, (i + 1) * 2 + offset));
     }
-    low
-}
-
-fn greatest_of(coords: &[i32], offset: usize, last: usize) -> f64
-    requires { last * 2 + offset < length coords.now }
-    ensures { result ≡ greatest (λ i. wide coords.now (i * 2 + offset)) last }
-{
-    let mut high = coordinate(coords, offset);
-    let mut i: usize = 0;
-    while i < last {
-        i += 1;
-        high = greater(high, coordinate(coords, i * 2 + offset));
-    }
-    high
+    so_far
 }
 
 impl QuadTree {
@@ -57,12 +45,12 @@ impl QuadTree {
     {
         let last = points - 1;
         let min = Point {
-            x: least_of(coords, 0, last),
-            y: least_of(coords, 1, last),
+            x: pick_of(coords, 0, last, lesser),
+            y: pick_of(coords, 1, last, lesser),
         };
         let max = Point {
-            x: greatest_of(coords, 0, last),
-            y: greatest_of(coords, 1, last),
+            x: pick_of(coords, 0, last, greater),
+            y: pick_of(coords, 1, last, greater),
         };
         QuadTree {
             bounds: Rect { min, max },

@@ -1,4 +1,5 @@
 -- The ways through building, each as a law. Assumes nothing.
+use Rattle.std.specs.Prelude.{Ok, Err, Some, None}
 use Prim.Native.Nat.{ℕ, zero, suc, ◌+◌, ◌-◌, ◌*◌, ◌≤◌, ◌<◌}
 use mathlib.Core.Path.{◌≡◌, refl, sym, ap, ap₂, ◌∙◌}
 use mathlib.Core.List.{List, [], append-nil}
@@ -18,19 +19,14 @@ use Rattle.room.proofs.Write.{write_eq}
 use Rattle.room.proofs.Fill.{write_pad}
 use Rattle.room.proofs.UpTo.{up_to_yes, up_to_done}
 use Rattle.boxes.specs.declared.Rect.{Rect}
-use Rattle.rings.specs.declared.Checked.{Checked}
-use Rattle.rings.specs.declared.Checked.TheVariants.{Sound, Faulty}
+use Rattle.rings.specs.Checks.{Checked}
 use Rattle.rings.specs.Ring.{segments}
 use Rattle.tree.specs.Tree.{Tree, max_depth, grown, ring_box, all_segments, tree_of, packed, nodes, work_numbers}
 use Rattle.tree.specs.All.{All}
 use Rattle.tree.proofs.Lists.{all_map, all_keep}
 use Rattle.tree_part.specs.Part.{Readable}
-use Rattle.tree_grow.specs.declared.Grown.{Grown}
-use Rattle.tree_grow.specs.declared.Grown.TheVariants.{Nodes, Full}
-use Rattle.tree_grow.specs.Inner.Growing.{Rooted, TreeGrew}
+use Rattle.tree_grow.specs.Inner.Growing.{Grown, Rooted, TreeGrew}
 use Rattle.tree_pack.specs.Inner.Packing.{node_of, NodeStands}
-use Rattle.tree_build.specs.declared.TreeBuilt.{TreeBuilt}
-use Rattle.tree_build.specs.declared.TreeBuilt.TheVariants.{Packed, Unpacked, TreeRefused}
 use Rattle.tree_build.specs.Build.{Outcome, zeroed, tree_bytes, packed_in, from_threshold, tree_built_by}
 use Rattle.tree_build.specs.Inner.Steps.{short, put, put_grown}
 use Rattle.tree_build.proofs.Standing.{Stood, standing}
@@ -78,15 +74,15 @@ all_readable long points few sizes =
 
 -- ---- the bytes where there is room for them
 module _ (bs b : List ℕ) (size : ℕ) (same : size ≡ length bs) (zeros : b ≡ replicate (length b) 0) where
-  pub put_short : length b < size → put bs (length b) ≡ (TreeRefused NoRoom, b)
+  pub put_short : length b < size → put bs (length b) ≡ (Err NoRoom, b)
   unfolding put
-  put_short h = rw (lt-leb (length bs) (length b) (omega arith)) (ap (λ (x : List ℕ). (TreeRefused NoRoom, x)) (sym zeros))
+  put_short h = rw (lt-leb (length bs) (length b) (omega arith)) (ap (λ (x : List ℕ). (Err NoRoom, x)) (sym zeros))
 
-  pub put_fits : size ≤ length b → (b' : List ℕ) → b' ≡ write b 0 bs → put bs (length b) ≡ (Packed size, b')
+  pub put_fits : size ≤ length b → (b' : List ℕ) → b' ≡ write b 0 bs → put bs (length b) ≡ (Ok (Some size), b')
   unfolding put
   put_fits h b' w =
       let e : b' ≡ pad (length b) bs = w ∙ ap (λ (x : List ℕ). write x 0 bs) zeros ∙ write_pad (length b) bs (omega arith) in
-      rw (le-leb (length bs) (length b) (omega arith)) (ap₂ (λ (k : ℕ) (x : List ℕ). (Packed k, x)) (sym same) (sym e))
+      rw (le-leb (length bs) (length b) (omega arith)) (ap₂ (λ (k : ℕ) (x : List ℕ). (Ok (Some k), x)) (sym same) (sym e))
 
 -- ---- growing
 -- what the packer asks of what was grown
@@ -106,16 +102,16 @@ module _ (ring : ℕ → Float) (points : ℕ) (box : Rect) (eb : box ≡ ring_b
   tree_is = rw (eb, er) refl
 
   module _ (rest : List ℕ) (r : Grown) (run' rest' : List ℕ) (g : TreeGrew (grown ring max_depth box run) rest r run' rest') (b : List ℕ) where
-    pub grown_full : r ≡ Full → b ≡ replicate (length b) 0 → put_grown (tree_of ring points) (length rest) (length b) ≡ (TreeRefused NoRoom, b)
+    pub grown_full : r ≡ None → b ≡ replicate (length b) 0 → put_grown (tree_of ring points) (length rest) (length b) ≡ (Err NoRoom, b)
     unfolding put_grown
     grown_full e zeros =
         let h : length rest < 6 * nodes (tree_of ring points) = rw (e, tree_is) at g in
-        rw (lt-leb (6 * nodes (tree_of ring points)) (length rest) h) (ap (λ (x : List ℕ). (TreeRefused NoRoom, x)) (sym zeros))
+        rw (lt-leb (6 * nodes (tree_of ring points)) (length rest) h) (ap (λ (x : List ℕ). (Err NoRoom, x)) (sym zeros))
 
-    pub grown_ready : (n : ℕ) → r ≡ Nodes n → Ready (tree_of ring points) run' rest'
+    pub grown_ready : (n : ℕ) → r ≡ Some n → Ready (tree_of ring points) run' rest'
     grown_ready n e = rw tree_is at (ready (grown ring max_depth box run) (standing ring max_depth box run) rest n run' rest' (rw e at g))
 
-    pub grown_put : (n : ℕ) → r ≡ Nodes n → put_grown (tree_of ring points) (length rest) (length b) ≡ put (node_of 64 run' rest').0 (length b)
+    pub grown_put : (n : ℕ) → r ≡ Some n → put_grown (tree_of ring points) (length rest) (length b) ≡ put (node_of 64 run' rest').0 (length b)
     unfolding put_grown
     grown_put n e =
         let q : Rooted (tree_of ring points) rest n run' rest' = rw (e, tree_is) at g in
@@ -123,7 +119,7 @@ module _ (ring : ℕ → Float) (points : ℕ) (box : Rect) (eb : box ≡ ring_b
 
 -- ---- from the work room
 module _ (ring : ℕ → Float) (points : ℕ) (bytes work : List ℕ) where
-  pub packed_short : length work < points - 1 → packed_in ring points bytes work ≡ zeroed (TreeRefused NoRoom) bytes work
+  pub packed_short : length work < points - 1 → packed_in ring points bytes work ≡ zeroed (Err NoRoom) bytes work
   unfolding packed_in
   packed_short h = rw (lt-leb (work_numbers ring points) (length work) (omega arith))
 
@@ -140,9 +136,9 @@ module _ (ring : ℕ → Float) (points : ℕ) (bytes work : List ℕ) where
       (lt_or k (6 * nodes (tree_of ring points)))
     where
       go : (z : Bool) → ◌≡◌ {A = Outcome}
-          (cond z (Packed (length (tree_bytes ring points)), pad (length bytes) (tree_bytes ring points), replicate (length work) 0) (zeroed (TreeRefused NoRoom) bytes work)) (
-            (cond z (Packed (length (tree_bytes ring points)), pad (length bytes) (tree_bytes ring points)) (short (length bytes))).0,
-            (cond z (Packed (length (tree_bytes ring points)), pad (length bytes) (tree_bytes ring points)) (short (length bytes))).1,
+          (cond z (Ok (Some (length (tree_bytes ring points))), pad (length bytes) (tree_bytes ring points), replicate (length work) 0) (zeroed (Err NoRoom) bytes work)) (
+            (cond z (Ok (Some (length (tree_bytes ring points))), pad (length bytes) (tree_bytes ring points)) (short (length bytes))).0,
+            (cond z (Ok (Some (length (tree_bytes ring points))), pad (length bytes) (tree_bytes ring points)) (short (length bytes))).1,
             replicate (length work) 0,
           )
       go true = refl
@@ -154,7 +150,7 @@ unfolding packed_in
 packed_room ring points b b' w w' e f = rw (e, f)
 
 module _ (ring : ℕ → Float) (points threshold : ℕ) (bytes work : List ℕ) where
-  pub from_under : points - 1 < threshold → from_threshold ring points threshold bytes work ≡ zeroed Unpacked bytes work
+  pub from_under : points - 1 < threshold → from_threshold ring points threshold bytes work ≡ zeroed (Ok None) bytes work
   unfolding from_threshold
   from_under h = rw (lt-ltb (segments points) threshold h)
 
@@ -163,11 +159,11 @@ module _ (ring : ℕ → Float) (points threshold : ℕ) (bytes work : List ℕ)
   from_reached h = rw (le-ltb (segments points) threshold h)
 
   module _ (checked : Checked) where
-    pub built_faulty : (why : Refusal) → checked ≡ Faulty why → tree_built_by checked ring points threshold bytes work ≡ (TreeRefused why, bytes, work)
+    pub built_faulty : (why : Refusal) → checked ≡ Err why → tree_built_by checked ring points threshold bytes work ≡ (Err why, bytes, work)
     unfolding tree_built_by
     built_faulty why e = rw e
 
-    pub built_sound : checked ≡ Sound → tree_built_by checked ring points threshold bytes work ≡ from_threshold ring points threshold bytes work
+    pub built_sound : checked ≡ Ok tt → tree_built_by checked ring points threshold bytes work ≡ from_threshold ring points threshold bytes work
     unfolding tree_built_by
     built_sound e = rw e
 
@@ -183,7 +179,3 @@ pub zeros_part : (k n : ℕ) → n ≤ k → length {A = ℕ} (take n (replicate
 zeros_part k zero h = refl
 zeros_part zero (suc n) h = absurd (omega arith)
 zeros_part (suc k) (suc n) h = ap suc (zeros_part k n (omega arith))
-
--- what the work room is at the end
-pub work_last : {x : Outcome} {r : TreeBuilt} {b w w' : List ℕ} → x ≡ (r, b, w) → w ≡ w' → x ≡ (r, b, w')
-work_last {r = r} {b = b} e f = e ∙ ap (λ (w : List ℕ). (r, b, w)) f

@@ -1,5 +1,6 @@
 -- Demand 3 for the tree as it is built: searching the bytes that building left finds, for every y, exactly the segments whose own closed height range
 -- holds y, each once, in node order; and the ring test through them is the scan's. Assumes nothing.
+use Rattle.std.specs.Prelude.{Ok, Err, Some, None}
 use Prim.Native.Nat.{ℕ, ◌-◌, ◌≤◌}
 use mathlib.Core.Path.{◌≡◌, refl, sym, ap, ◌∙◌}
 use mathlib.Core.List.{List}
@@ -14,10 +15,9 @@ use borrow.Author.Tests.{leb-true, le-leb, le-ltb}
 use Rattle.answers.specs.declared.Refusal.{Refusal}
 use Rattle.answers.specs.declared.Refusal.TheVariants.{NoRoom}
 use Rattle.boxes.specs.declared.Point.{Point}
-use Rattle.room.specs.Room.{pad}
+use Rattle.room.specs.Room.{padded, pad}
 use Rattle.room.specs.Numbers.{bit, count}
-use Rattle.rings.specs.declared.Checked.{Checked}
-use Rattle.rings.specs.declared.Checked.TheVariants.{Sound, Faulty}
+use Rattle.rings.specs.Checks.{Checked}
 use Rattle.rings.specs.Ring.{side_at, segments, holds_height, meeting}
 use Rattle.tree.specs.Tree.{those, in_order, tree_of, ring_box, work_numbers}
 use Rattle.tree.specs.Search.{ends, searched}
@@ -28,21 +28,19 @@ use Rattle.cast_test.specs.Test.{scan_test, scan_tested_by}
 use Rattle.cast_test.proofs.Scan.{tested_checked}
 use Rattle.tree_find.specs.Find.{answered, tree_listed_by, tree_tested_by}
 use Rattle.tree_find.proofs.Demand.{lists_all, tests_as_scan}
-use Rattle.tree_build.specs.declared.TreeBuilt.{TreeBuilt}
-use Rattle.tree_build.specs.declared.TreeBuilt.TheVariants.{Packed, Unpacked, TreeRefused}
-use Rattle.tree_build.specs.Build.{Outcome, zeroed, tree_bytes, packed_in, from_threshold, when_sound, tree_built_by}
+use Rattle.tree_build.specs.Build.{TreeBuilt, Outcome, zeroed, tree_bytes, packed_in, from_threshold, when_sound, tree_built_by}
 
 -- Every ring that passed its checks and reaches the threshold gets its tree, where the room is as large as the rules call for.
-pub builds : (checked : Checked) (ring : ℕ → Float) (points threshold : ℕ) (bytes work : List ℕ) → checked ≡ Sound → threshold ≤ segments points
+pub builds : (checked : Checked) (ring : ℕ → Float) (points threshold : ℕ) (bytes work : List ℕ) → checked ≡ Ok tt → threshold ≤ segments points
     → work_numbers ring points ≤ length work → length (tree_bytes ring points) ≤ length bytes
-    → tree_built_by checked ring points threshold bytes work ≡ (Packed (length (tree_bytes ring points)), pad (length bytes) (tree_bytes ring points), replicate (length work) 0)
+    → tree_built_by checked ring points threshold bytes work ≡ (Ok (Some (length (tree_bytes ring points))), pad (length bytes) (tree_bytes ring points), replicate (length work) 0)
 unfolding tree_built_by from_threshold packed_in
 builds checked ring points threshold bytes work sound reached enough roomy =
     rw (sound, le-ltb (segments points) threshold reached, le-leb (work_numbers ring points) (length work) enough, le-leb (length (tree_bytes ring points)) (length bytes) roomy)
 
 -- what a successful building says
 pub record Built (checked : Checked) (ring : ℕ → Float) (points : ℕ) (bytes work : List ℕ) (n : ℕ) (b w : List ℕ) : Type 0 where
-  pub sound : checked ≡ Sound
+  pub sound : checked ≡ Ok tt
   pub enough : work_numbers ring points ≤ length work
   pub roomy : n ≤ length bytes
   pub size : n ≡ length (tree_bytes ring points)
@@ -50,23 +48,23 @@ pub record Built (checked : Checked) (ring : ℕ → Float) (points : ℕ) (byte
   pub rest : w ≡ replicate (length work) 0
 
 module _ (checked : Checked) (ring : ℕ → Float) (points : ℕ) (bytes work : List ℕ) (n : ℕ) (b w : List ℕ) where
-  never : (r : TreeBuilt) (x y : List ℕ) → (r ≡ Packed n → ⊥) → ◌≡◌ {A = Outcome} (r, x, y) (Packed n, b, w) → ⊥
+  never : (r : TreeBuilt) (x y : List ℕ) → (r ≡ Ok (Some n) → ⊥) → ◌≡◌ {A = Outcome} (r, x, y) (Ok (Some n), b, w) → ⊥
   never r x y d e = d (ap (λ (o : Outcome). o.0) e)
 
-  refused : (why : Refusal) → TreeRefused why ≡ Packed n → ⊥
+  refused : (why : Refusal) → Err why ≡ Ok (Some n) → ⊥
   refused why f = let z : ◌≡◌ {A = ℕ} 0 1 = cc in omega arith
 
-  packed_is : checked ≡ Sound → packed_in ring points bytes work ≡ (Packed n, b, w) → Built checked ring points bytes work n b w
+  packed_is : checked ≡ Ok tt → packed_in ring points bytes work ≡ (Ok (Some n), b, w) → Built checked ring points bytes work n b w
   unfolding packed_in
   packed_is s e = go (leb (work_numbers ring points) (length work)) (leb (length (tree_bytes ring points)) (length bytes)) refl refl e
     where
       go : (x y : Bool) → leb (work_numbers ring points) (length work) ≡ x → leb (length (tree_bytes ring points)) (length bytes) ≡ y
           → ◌≡◌ {A = Outcome}
-          (cond (x && y) (Packed (length (tree_bytes ring points)), pad (length bytes) (tree_bytes ring points), replicate (length work) 0) (zeroed (TreeRefused NoRoom) bytes work))
-          (Packed n, b, w)
+          (cond (x && y) (Ok (Some (length (tree_bytes ring points))), pad (length bytes) (tree_bytes ring points), replicate (length work) 0) (zeroed (Err NoRoom) bytes work))
+          (Ok (Some n), b, w)
           → Built checked ring points bytes work n b w
       go true true p q u =
-          let f : Packed (length (tree_bytes ring points)) ≡ Packed n = ap (λ (o : Outcome). o.0) u in
+          let f : Ok (Some (length (tree_bytes ring points))) ≡ Ok (Some n) = ap (λ (o : Outcome). o.0) u in
           let k : n ≡ length (tree_bytes ring points) = cc in
           let r = leb-true (length (tree_bytes ring points)) (length bytes) q in
           record {
@@ -80,25 +78,25 @@ module _ (checked : Checked) (ring : ℕ → Float) (points : ℕ) (bytes work :
       go true false p q u = absurd (never _ _ _ (refused NoRoom) u)
       go false y p q u = absurd (never _ _ _ (refused NoRoom) u)
 
-  pub built_is : (threshold : ℕ) → tree_built_by checked ring points threshold bytes work ≡ (Packed n, b, w) → Built checked ring points bytes work n b w
+  pub built_is : (threshold : ℕ) → tree_built_by checked ring points threshold bytes work ≡ (Ok (Some n), b, w) → Built checked ring points bytes work n b w
   unfolding tree_built_by from_threshold
   built_is threshold e = go checked (ltb (segments points) threshold) refl e
     where
-      under : Unpacked ≡ Packed n → ⊥
+      under : ◌≡◌ {A = TreeBuilt} (Ok None) (Ok (Some n)) → ⊥
       under f = let z : ◌≡◌ {A = ℕ} 0 1 = cc in omega arith
 
-      go : (k : Checked) (u : Bool) → checked ≡ k → when_sound k bytes work (cond u (zeroed Unpacked bytes work) (packed_in ring points bytes work)) ≡ (Packed n, b, w)
+      go : (k : Checked) (u : Bool) → checked ≡ k → when_sound k bytes work (cond u (zeroed (Ok None) bytes work) (packed_in ring points bytes work)) ≡ (Ok (Some n), b, w)
           → Built checked ring points bytes work n b w
-      go Sound false p f = packed_is p f
-      go Sound true p f = absurd (never _ _ _ under f)
-      go (Faulty why) u p f = absurd (never _ _ _ (refused why) f)
+      go (Ok _) false p f = packed_is p f
+      go (Ok _) true p f = absurd (never _ _ _ under f)
+      go (Err why) u p f = absurd (never _ _ _ (refused why) f)
 
 pad_used : (n : ℕ) (xs : List ℕ) (k : ℕ) → k ≡ length xs → take k (pad n xs) ≡ xs
-unfolding pad
+unfolding padded
 pad_used n xs k e = rw e (take-append_seam xs (replicate (n - length xs) 0))
 
 module _ (checked : Checked) (ring : ℕ → Float) (points threshold : ℕ) (searchable : Searchable checked ring points) (bytes work : List ℕ) (n : ℕ) (b w : List ℕ)
-    (built : tree_built_by checked ring points threshold bytes work ≡ (Packed n, b, w)) where
+    (built : tree_built_by checked ring points threshold bytes work ≡ (Ok (Some n), b, w)) where
   is : Built checked ring points bytes work n b w
   is = built_is checked ring points bytes work n b w threshold built
 

@@ -1,15 +1,16 @@
 -- 01, "The packed tree" and "What a call says when it says no": what building answers, and what it leaves in the room lent for the bytes and in the
 -- work room.
-use Rattle.std.specs.Prelude.{Bool, cond, ◌&&◌, List, ℕ, length, replicate, ℤ, leb, ltb, Float}
+use Rattle.std.specs.Prelude.{Result, Ok, Err, Option, Some, None, Bool, cond, ◌&&◌, List, ℕ, length, replicate, ℤ, leb, ltb, Float}
+use Rattle.answers.specs.declared.Refusal.{Refusal}
 use Rattle.answers.specs.declared.Refusal.TheVariants.{NoRoom}
 use Rattle.room.specs.Room.{pad}
-use Rattle.rings.specs.declared.Checked.{Checked}
-use Rattle.rings.specs.declared.Checked.TheVariants.{Sound, Faulty}
 use Rattle.rings.specs.Ring.{wide, segments}
-use Rattle.rings.specs.Checks.{ring_checked}
+use Rattle.rings.specs.Checks.{Checked, ring_checked}
 use Rattle.tree.specs.Tree.{tree_of, packed, work_numbers}
-use Rattle.tree_build.specs.declared.TreeBuilt.{TreeBuilt}
-use Rattle.tree_build.specs.declared.TreeBuilt.TheVariants.{Packed, Unpacked, TreeRefused}
+
+-- how many bytes the tree takes; no tree, under the threshold; or a refusal
+abbrev pub TreeBuilt : Type 0
+TreeBuilt = Result (Option ℕ) Refusal
 
 -- the answer, the bytes and the work room
 abbrev pub Outcome : Type 0
@@ -31,17 +32,17 @@ roomy ring points bytes work = leb (work_numbers ring points) (length work) && l
 unfoldable pub packed_in : (ℕ → Float) → ℕ → List ℕ → List ℕ → Outcome
 packed_in ring points bytes work =
     cond (roomy ring points bytes work)
-    (Packed (length (tree_bytes ring points)), pad (length bytes) (tree_bytes ring points), replicate (length work) 0)
-    (zeroed (TreeRefused NoRoom) bytes work)
+    (Ok (Some (length (tree_bytes ring points))), pad (length bytes) (tree_bytes ring points), replicate (length work) 0)
+    (zeroed (Err NoRoom) bytes work)
 
 -- "A ring under the threshold gets no index and says so."
 unfoldable pub from_threshold : (ℕ → Float) → ℕ → ℕ → List ℕ → List ℕ → Outcome
-from_threshold ring points threshold bytes work = cond (ltb (segments points) threshold) (zeroed Unpacked bytes work) (packed_in ring points bytes work)
+from_threshold ring points threshold bytes work = cond (ltb (segments points) threshold) (zeroed (Ok None) bytes work) (packed_in ring points bytes work)
 
 -- checks 1 to 4 come first, and touch no room
 abbrev pub when_sound : Checked → List ℕ → List ℕ → Outcome → Outcome
-when_sound Sound bytes work later = later
-when_sound (Faulty why) bytes work later = (TreeRefused why, bytes, work)
+when_sound (Ok _) bytes work later = later
+when_sound (Err why) bytes work later = (Err why, bytes, work)
 
 -- what the checks found is given, since they look at the stored numbers and what follows does not
 unfoldable pub tree_built_by : Checked → (ℕ → Float) → ℕ → ℕ → List ℕ → List ℕ → Outcome

@@ -1,5 +1,6 @@
 -- Demand 3 as the calls have it: on the bytes of a ring's own tree the list is the segments that hold the height, in node order, and the ring test is
 -- that of the scan. Assumes nothing.
+use Rattle.std.specs.Prelude.{Ok}
 use Prim.Native.Nat.{ℕ}
 use mathlib.Core.Path.{◌≡◌, refl, sym, ap, ◌∙◌}
 use mathlib.Core.List.{List}
@@ -7,11 +8,9 @@ use mathlib.Core.Bool.{Bool, true, false, cond, ◌&&◌}
 use lib.ListN.{length}
 use lib.Ieee.{Float}
 use lib.Ieee.Scale.{finite}
-use Rattle.answers.specs.declared.Answer.TheVariants.{No}
 use Rattle.answers.specs.Answers.{said}
 use Rattle.boxes.specs.declared.Point.{Point}
-use Rattle.rings.specs.declared.Checked.{Checked}
-use Rattle.rings.specs.declared.Checked.TheVariants.{Sound}
+use Rattle.rings.specs.Checks.{Checked}
 use Rattle.rings.specs.Ring.{side_at, holds_height, meeting}
 use Rattle.cast_test.specs.Test.{cast_at, is_on, is_inside, test_of, scan_test, scan_tested_by}
 use Rattle.cast_test.proofs.Scan.{tested_checked}
@@ -37,7 +36,7 @@ unfolding verdict
 whole_verdict ring p edge (xs, ends q) w = refl
 whole_verdict ring p edge (xs, fails why) w = absurd w
 
-module _ (checked : Checked) (ring : ℕ → Float) (points : ℕ) (searchable : Searchable checked ring points) (sound : checked ≡ Sound) where
+module _ (checked : Checked) (ring : ℕ → Float) (points : ℕ) (searchable : Searchable checked ring points) (sound : checked ≡ Ok tt) where
   -- The list call: the segments of the ring that hold y, in node order, in the room or refused for want of it. `ends 0` says only that nothing is
   -- refused: the answer is the same at any place.
   pub lists_all : (y : Float) (room : List ℕ) → finite y ≡ true
@@ -57,7 +56,7 @@ module _ (checked : Checked) (ring : ℕ → Float) (points : ℕ) (searchable :
   tests_as_scan p edge = go (finite p.x && finite p.y) refl
     where
       go : (b : Bool) → (finite p.x && finite p.y) ≡ b
-          → tree_tested_by checked ring points (packed (tree_of ring points)) p edge ≡ cond b (said (test_of ring p edge (meeting ring points p.y))) No
+          → tree_tested_by checked ring points (packed (tree_of ring points)) p edge ≡ cond b (said (test_of ring p edge (meeting ring points p.y))) (Ok false)
       go true e =
           let few = searchable.few sound in let plain = searchable.plain sound in
           sym (tested_sound checked ring points (packed (tree_of ring points)) p edge sound e)

@@ -1,4 +1,5 @@
 -- Laws of trees that stand side by side: what growing one after the other comes to. Assumes nothing.
+use Rattle.std.specs.Prelude.{Some, None}
 use Prim.Native.Nat.{ℕ, suc, ◌+◌, ◌-◌, ◌*◌, ◌≤◌, ◌<◌}
 use mathlib.Core.Path.{◌≡◌, refl, sym, ap, ap₂, subst, ◌∙◌}
 use mathlib.Core.List.{List, [], ◌∷◌, ◌++◌, append_assoc}
@@ -12,24 +13,16 @@ use Rattle.boxes.specs.Quads.{quad_bounds}
 use Rattle.varint.specs.Leb128.{encode}
 use Rattle.tree.specs.Tree.{Tree, leaf, grown, own_bytes, packed, nodes, in_order}
 use Rattle.tree_part.specs.declared.Shares.{Shares}
-use Rattle.tree_grow.specs.declared.Growth.{Growth}
-use Rattle.tree_grow.specs.declared.Growth.TheVariants.{Stands, Cramped}
+use Rattle.tree_grow.specs.Inner.Growing.{Growth}
 use Rattle.tree_grow.specs.Inner.Records.{records}
 use Rattle.tree_grow.specs.Inner.Growing.{Crop, crop_of, no_crop, beside, sprout, share_of, shares_n, shares_from, crop_n, crop_from, Stood, Grew, Rooted}
 use Rattle.tree_grow.proofs.Records.{nodes_some}
 use Rattle.tree_grow.proofs.Parts.{part_end, put_end, put_behind}
 
--- what a growing function did, once its answer is known
-pub stood : {c : Crop} {rest : List ℕ} {r : Growth} {a b : List ℕ} {n size : ℕ} → Grew c rest r a b → r ≡ Stands n size → Stood c rest n size a b
-stood g e = rw e at g.out
-
-pub cramped : {c : Crop} {rest : List ℕ} {r : Growth} {a b : List ℕ} → Grew c rest r a b → r ≡ Cramped → length rest < 6 * c.count
-cramped g e = rw e at g.out
-
-pub grew : {c : Crop} {rest : List ℕ} {n size : ℕ} {a b : List ℕ} → Stood c rest n size a b → Grew c rest (Stands n size) a b
+pub grew : {c : Crop} {rest : List ℕ} {n size : ℕ} {a b : List ℕ} → Stood c rest n size a b → Grew c rest (Some (n, size)) a b
 grew s = record { out = s }
 
-pub full : {c : Crop} {rest a b : List ℕ} → length rest < 6 * c.count → Grew c rest Cramped a b
+pub full : {c : Crop} {rest a b : List ℕ} → length rest < 6 * c.count → Grew c rest None a b
 full h = record { out = h }
 
 -- the same trees by another name
@@ -40,7 +33,7 @@ pub same_tree : {t u : Tree} {rest : List ℕ} {r : Growth} {a b : List ℕ} →
 same_tree e g = same_crop (ap crop_of e) g
 
 -- ---- one tree
-pub none_grew : (ring : ℕ → Float) (left : ℕ) (box : Rect) (xs rest : List ℕ) → length xs ≡ 0 → Grew (crop_of (sprout ring left box xs)) rest (Stands 0 0) xs rest
+pub none_grew : (ring : ℕ → Float) (left : ℕ) (box : Rect) (xs rest : List ℕ) → length xs ≡ 0 → Grew (crop_of (sprout ring left box xs)) rest (Some (0, 0)) xs rest
 unfolding crop_of sprout nodes packed in_order records
 none_grew ring left box [] rest e = grew (record { counted = refl; sized = refl; ordered = refl; recorded = refl; fits = omega arith })
 none_grew ring left box (x ∷ xs) rest e = absurd (omega arith)
@@ -66,13 +59,13 @@ module _ (ring : ℕ → Float) (left : ℕ) (box : Rect) (xs : List ℕ) (some 
   tree_full rest h = subst (λ (c : Crop). length rest < 6 * c.count) crop_whole h
 
 pub full_at_once : (ring : ℕ → Float) (left : ℕ) (box : Rect) (xs rest a b : List ℕ) → (length xs ≡ 0 → ⊥) → length rest < 6
-    → Grew (crop_of (sprout ring left box xs)) rest Cramped a b
+    → Grew (crop_of (sprout ring left box xs)) rest None a b
 unfolding crop_of
 full_at_once ring left box xs rest a b h l =
     same_tree (sprout_some ring left box xs h) (full (omega (arith, nodes_some ring left box xs)))
 
 pub leaf_grew : (xs rest rest' : List ℕ) (size : ℕ) → 6 ≤ length rest → size ≡ length (own_bytes xs)
-    → rest' ≡ length xs ∷ 0 ∷ 0 ∷ 0 ∷ 0 ∷ (size + 1) ∷ drop 6 rest → Grew (crop_of (leaf xs)) rest (Stands 1 (size + 1)) xs rest'
+    → rest' ≡ length xs ∷ 0 ∷ 0 ∷ 0 ∷ 0 ∷ (size + 1) ∷ drop 6 rest → Grew (crop_of (leaf xs)) rest (Some (1, size + 1)) xs rest'
 unfolding crop_of nodes packed in_order records
 leaf_grew xs rest rest' size h s r =
     let e : size + 1 ≡ length (own_bytes xs ++ (0 ∷ [])) = simp length-append (omega arith) in

@@ -1,4 +1,5 @@
 -- The quadrants of a node, one behind the other: each step of the code against what stands in the room after it. Assumes nothing.
+use Rattle.std.specs.Prelude.{Some, None}
 use Prim.Native.Nat.{ℕ, ◌+◌, ◌-◌, ◌*◌, ◌≤◌, ◌<◌}
 use mathlib.Core.Path.{◌≡◌, refl, sym, ap, subst}
 use mathlib.Core.List.{List, [], ◌∷◌, ◌++◌}
@@ -13,7 +14,6 @@ use Rattle.varint.specs.Leb128.{encode}
 use Rattle.tree.specs.All.{All}
 use Rattle.tree_part.specs.declared.Shares.{Shares}
 use Rattle.tree_part.specs.Part.{Readable}
-use Rattle.tree_grow.specs.declared.Growth.TheVariants.{Stands, Cramped}
 use Rattle.tree_grow.specs.Inner.Growing.{Crop, crop_of, beside, sprout, share_of, shares_from, crop_from, Stood, Grew}
 use Rattle.tree_grow.proofs.Records.{records_length}
 use Rattle.tree_grow.proofs.Parts.{part_behind}
@@ -26,7 +26,7 @@ nothing (x ∷ xs) e = absurd (omega arith)
 
 -- none is left
 pub from_none : (ring : ℕ → Float) (left : ℕ) (box : Rect) (s : Shares) (q : ℕ) (run rest : List ℕ) → q ≡ 4 → shares_from s q ≡ length run
-    → Grew (crop_from ring left box s q run) rest (Stands 0 0) run rest
+    → Grew (crop_from ring left box s q run) rest (Some (0, 0)) run rest
 from_none ring left box s q run rest e l =
     same_crop (crop_done ring left box s q run e)
     (grew (record { counted = refl; sized = refl; ordered = nothing run (omega (arith, l, shares_done ring left box s q e)); recorded = refl; fits = omega arith }))
@@ -59,7 +59,7 @@ module _ {total : ℕ} {ring : ℕ → Float} {left : ℕ} {box : Rect} {s : Sha
     crop_here : crop_from ring left box s q run ≡ beside here (crop_from ring left box s (q + 1) (drop n run))
     crop_here = rw (h.share, b) (crop_more ring left box s q run h.last h.more)
 
-    pub from_full : {rest a a' : List ℕ} → length rest < 6 * here.count → Grew (crop_from ring left box s q run) rest Cramped a a'
+    pub from_full : {rest a a' : List ℕ} → length rest < 6 * here.count → Grew (crop_from ring left box s q run) rest None a a'
     unfolding beside
     from_full l = same_crop crop_here (full (omega arith))
 
@@ -90,12 +90,6 @@ module _ {total : ℕ} {ring : ℕ → Float} {left : ℕ} {box : Rect} {s : Sha
   unfolding crop_of
   first_long = records_length (sprout ring left h.inner (take n run))
 
-  pub used_within : k * 6 ≤ length rest
-  used_within = omega (arith, h.stands.counted, h.stands.fits)
-
-  pub used_in : k * 6 ≤ length rest₁
-  used_in = omega (arith, used_within, h.kept)
-
   pub share_in : n ≤ length (p ++ drop n run)
   share_in = omega (arith, share_within h.next, length_front run p n h.long)
 
@@ -110,7 +104,7 @@ module _ {total : ℕ} {ring : ℕ → Float} {left : ℕ} {box : Rect} {s : Sha
         omega (arith, x.shares, x.share, shares_more ring left box s q x.last x.more, ap length behind_is, length-drop n run),
       )
 
-  pub behind_full : {a a' : List ℕ} → length rest_behind < 6 * (crop_from ring left box s (q + 1) behind).count → Grew (crop_from ring left box s q run) rest Cramped a a'
+  pub behind_full : {a a' : List ℕ} → length rest_behind < 6 * (crop_from ring left box s (q + 1) behind).count → Grew (crop_from ring left box s q run) rest None a a'
   behind_full l =
       same_crop (crop_here h.next h.inner h.inside)
       (full (beside_full first (crop_from ring left box s (q + 1) (drop n run)) rest p rest₁ k size first_long h.stands (rw behind_is at l)))
@@ -121,7 +115,7 @@ module _ {total : ℕ} {ring : ℕ → Float} {left : ℕ} {box : Rect} {s : Sha
         omega (arith, h.stands.counted, h.stands.fits, g.counted, g.fits, left_over first (crop_from ring left box s (q + 1) behind) rest p rest₁ k size first_long h.stands)
 
     module _ (len : ℕ) (i : len ≡ length (encode size)) where
-      pub from_grew : Grew (crop_from ring left box s q run) rest (Stands (k + k₂) (len + size + size₂))
+      pub from_grew : Grew (crop_from ring left box s q run) rest (Some (k + k₂, len + size + size₂))
           (put_mid n (length (p ++ drop n run) - n) (p ++ drop n run) y) (put_mid (k * 6) (length rest₁ - k * 6) rest₁ rest₂)
       from_grew =
           same_crop (crop_here h.next h.inner h.inside)

@@ -1,4 +1,5 @@
 -- A node that splits: what its record and its quadrants come to. Assumes nothing.
+use Rattle.std.specs.Prelude.{Some, None}
 use Prim.Native.Nat.{ℕ, ◌+◌, ◌-◌, ◌*◌, ◌≤◌, ◌<◌}
 use mathlib.Core.Path.{◌≡◌, refl, sym, ap, ap₂, subst, ◌∙◌}
 use mathlib.Core.List.{List, ◌∷◌, ◌++◌, append-nil}
@@ -15,7 +16,6 @@ use Rattle.tree.proofs.Share.{kid_of, length_shares}
 use Rattle.tree.proofs.Size.{split_size}
 use Rattle.tree_part.specs.declared.Shares.{Shares}
 use Rattle.tree_part.specs.Part.{Readable, shares_of, parts_of, shared_out}
-use Rattle.tree_grow.specs.declared.Growth.TheVariants.{Stands, Cramped}
 use Rattle.tree_grow.specs.Inner.Records.{arriving, records}
 use Rattle.tree_grow.specs.Inner.Growing.{Crop, crop_of, no_crop, beside, sprout, shares_n, shares_from, crop_from, Stood, Grew}
 use Rattle.tree_grow.proofs.Records.{grown_split, arriving_kid}
@@ -216,7 +216,7 @@ module _ {total : ℕ} {ring : ℕ → Float} {left : ℕ} {box : Rect} {xs : Li
   )
 
   pub split_full : {a b : List ℕ} → length (take (length rest - 6) (drop 6 rest)) < 6 * (crop_from ring left box s 0 (behind_of (s, run))).count
-      → Grew (crop_of (grown ring (left + 1) box xs)) rest Cramped a b
+      → Grew (crop_of (grown ring (left + 1) box xs)) rest None a b
   split_full l =
       same_tree (grown_split ring left box xs h.many)
       (full (given (λ z. length (take (length rest - 6) (drop 6 rest)) < 6 * (crop_from ring left box z.0 0 (behind_of z)).count → length rest < 6 * (crop_of (split (stayers ring box xs) (kid_of ring left box xs))).count)
@@ -226,7 +226,7 @@ module _ {total : ℕ} {ring : ℕ → Float} {left : ℕ} {box : Rect} {xs : Li
       (g : Stood (crop_from ring left box s 0 (behind_of (s, run))) (take (length rest - 6) (drop 6 rest)) k size y rest₂) where
     pub split_grew : {rest' : List ℕ}
         → rest' ≡ s.own ∷ s.nw ∷ s.ne ∷ s.sw ∷ s.se ∷ (own + 1 + size) ∷ drop 6 (put_mid 6 (length rest - 6) rest rest₂)
-        → Grew (crop_of (grown ring (left + 1) box xs)) rest (Stands (k + 1) (own + 1 + size)) (put_mid s.own (length run - s.own) run y) rest'
+        → Grew (crop_of (grown ring (left + 1) box xs)) rest (Some (k + 1, own + 1 + size)) (put_mid s.own (length run - s.own) run y) rest'
     split_grew {rest'} r =
         same_tree (grown_split ring left box xs h.many)
         (grew (given (Split ring left box xs rest y rest₂ rest' k size own) (split_stood ring left box xs rest y rest₂ rest' k size own h.room) o g r))
@@ -235,6 +235,3 @@ module _ {total : ℕ} {ring : ℕ → Float} {left : ℕ} {box : Rect} {xs : Li
     unfolding crop_of
     split_small =
         omega (arith, (split_grew refl).out.sized, grown_size ring (left + 1) box (omega (arith, h.deep)) xs (omega (arith, h.many)) h.few (small_all total xs h.readable), h.few)
-
-    pub node_fits : 6 * (k + 1) ≤ length rest
-    node_fits = omega (arith, g.counted, g.fits, h.room, ap length (part_end rest 6), length-drop 6 rest)

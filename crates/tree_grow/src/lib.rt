@@ -1,5 +1,7 @@
 // Grows the tree of a ring in two rooms: the segments are shared out where they stand, and each node leaves six numbers in
 // the other, a node before its quadrants. The `pub` functions are for the crates above, which have checked the ring.
+// A record is six numbers in a row and no struct, and the tree has no boxes: both rooms are lent, from C as well, as slices
+// of u32, and the project has no heap.
 #![tactic(auto)]
 
 ghost use Rattle.std.specs.Prelude.{◌≡◌, ◌∷◌, ◌+◌, ◌-◌, ◌*◌, ◌<◌, ◌≤◌, length, drop};
@@ -15,29 +17,11 @@ use tree::QuadTree;
 use tree_part::{Shares, share_out};
 use varint::uvarint_len;
 
-// How trees that stand side by side came out: their nodes and their bytes, or that their records do not fit.
-#[derive(Clone, Copy)]
-pub enum Growth {
-    Stands(usize, usize),
-    Cramped,
-}
-
-// How a whole tree came out: its nodes, or that their records do not fit.
-#[derive(Clone, Copy)]
-pub enum Grown {
-    Nodes(usize),
-    Full,
-}
-
 // How many bytes a difference takes. A node's segments rise; the definition's difference is 0 where they would not.
 fn gap_len(x: u32, last: u32) -> usize
     ensures { (result ≡ length (encode (x - last))) × (result ≤ 10) }
 {
-    if last < x {
-        uvarint_len((x - last) as u64)
-    } else {
-        1
-    }
+    uvarint_len(u64::from(x.saturating_sub(last)))
 }
 
 // How many bytes a node's own segments take.
@@ -47,11 +31,9 @@ fn own_size(run: &[u32]) -> usize
 {
     let mut size = uvarint_len(run.len() as u64);
     let mut last: u32 = 0;
-    let mut i: usize = 0;
-    while i < run.len() {
-        size += gap_len(run[i], last);
-        last = run[i];
-        i += 1;
+    for x in run {
+        size += gap_len(*x, last);
+        last = *x;
     }
     size
 }
@@ -71,7 +53,7 @@ fn write_record(rest: &mut [u32], shares: Shares, size: usize)
 }
 
 // A leaf keeps what arrives.
-fn grow_leaf(run: &[u32], rest: &mut [u32]) -> Growth
+fn grow_leaf(run: &[u32], rest: &mut [u32]) -> Option<(usize, usize)>
     requires { (length run.now ≤ 4096) × (6 ≤ length rest.old) }
     ensures { Grew (crop_of (leaf run.now)) rest.old result run.now rest.new }
 {
@@ -84,10 +66,10 @@ fn grow_leaf(run: &[u32], rest: &mut [u32]) -> Growth
         se: 0,
     };
     write_record(rest, shares, size);
-    Growth::Stands(1, size)
+    Some((1, size))
 }
 
-// How many segments go to quadrant q.
+// How many segments go to quadrant q. A quadrant is told by its number, as document 01 and the public calls tell it.
 fn share_of(shares: Shares, q: usize) -> usize
     ensures { result ≡ share_of shares q }
 {
@@ -99,102 +81,94 @@ fn share_of(shares: Shares, q: usize) -> usize
     }
 }
 
-// The tree of what arrives, with so many levels below its root.
-#[cycle(grow_grow_from_grow_split)]
-fn grow(ring: &[i32], left: usize, bounds: Rect, run: &mut [u32], rest: &mut [u32]) -> Growth
-    requires { (left ≤ max_depth) × (length run.old ≤ 4096) × All (Readable (length ring.now)) run.old }
-    ensures { Grew (crop_of (sprout (wide ring.now) left bounds run.old)) rest.old result run.new rest.new }
-{
-    if run.len() == 0 {
-        return Growth::Stands(0, 0);
-    }
-    if rest.len() < 6 {
-        return Growth::Cramped;
-    }
-    if left == 0 {
-        return grow_leaf(run, rest);
-    }
-    if run.len() <= QuadTree::Q_MAX_ITEMS {
-        return grow_leaf(run, rest);
-    }
-    grow_split(ring, left - 1, bounds, run, rest)
-}
-
-// A node that splits, with so many levels below its quadrants. Its record is written last, since it has the size.
-#[cycle(grow_grow_from_grow_split)]
-fn grow_split(ring: &[i32], left: usize, bounds: Rect, run: &mut [u32], rest: &mut [u32]) -> Growth
-    requires { (left < max_depth) × (max_items < length run.old) × (length run.old ≤ 4096) × All (Readable (length ring.now)) run.old × (6 ≤ length rest.old) }
-    ensures { Grew (crop_of (grown (wide ring.now) (left + 1) bounds run.old)) rest.old result run.new rest.new }
-{
-    let shares = share_out(ring, bounds, run);
-    let own = shares.own;
-    let bytes = own_size(&run[..own]) + 1;
-    match grow_from(
-        ring,
-        left,
-        bounds,
-        shares,
-        0,
-        &mut run[own..],
-        &mut rest[6..],
-    ) {
-        Growth::Cramped => Growth::Cramped,
-        Growth::Stands(nodes, size) => {
-            write_record(rest, shares, bytes + size);
-            Growth::Stands(nodes + 1, bytes + size)
-        }
-    }
-}
-
-// The quadrants from q on, whose segments stand one behind the other.
-#[cycle(grow_grow_from_grow_split)]
-fn grow_from(
-    ring: &[i32],
+// Where a tree grows: its ring, how many levels stand below the node, and the node's box.
+// No ghost field bounds `left`: it may be all levels in `grow` and one less in `grow_split` and `grow_from`, so two clauses
+// of three would stay, and with a ghost field `..self` cannot be written. The rest speaks of the run, lent as &mut.
+#[derive(Clone, Copy)]
+struct Spot<'a> {
+    ring: &'a [i32],
     left: usize,
     bounds: Rect,
-    shares: Shares,
-    q: usize,
-    run: &mut [u32],
-    rest: &mut [u32],
-) -> Growth
-    requires { (left < max_depth) × (q ≤ 4) × (length run.old ≤ 4096) × All (Readable (length ring.now)) run.old × (shares_from shares q ≡ length run.old) }
-    ensures { Grew (crop_from (wide ring.now) left bounds shares q run.old) rest.old result run.new rest.new }
-{
-    if q == 4 {
-        return Growth::Stands(0, 0);
-    }
-    let n = share_of(shares, q);
-    match grow(ring, left, quad_bounds(bounds, q), &mut run[..n], rest) {
-        Growth::Cramped => Growth::Cramped,
-        Growth::Stands(nodes, size) => {
-            let used = nodes * 6;
-            match grow_from(
-                ring,
-                left,
-                bounds,
-                shares,
-                q + 1,
-                &mut run[n..],
-                &mut rest[used..],
-            ) {
-                Growth::Cramped => Growth::Cramped,
-                Growth::Stands(more, sizes) => Growth::Stands(
-                    nodes + more,
-                    uvarint_len(size as u64) + size + sizes,
-                ),
-            }
+}
+
+impl<'a> Spot<'a> {
+    // The tree of what arrives, with so many levels below its root.
+    #[cycle(grow_grow_from_grow_split)]
+    fn grow(self, run: &mut [u32], rest: &mut [u32]) -> Option<(usize, usize)>
+        requires { (self.left ≤ max_depth) × (length run.old ≤ 4096) × All (Readable (length self.ring.now)) run.old }
+        ensures { Grew (crop_of (sprout (wide self.entry.ring.now) self.entry.left self.entry.bounds run.old)) rest.old result run.new rest.new }
+    {
+        if run.is_empty() {
+            return Some((0, 0));
         }
+        if rest.len() < 6 {
+            return None;
+        }
+        if self.left == 0 {
+            return grow_leaf(run, rest);
+        }
+        if run.len() <= QuadTree::Q_MAX_ITEMS {
+            return grow_leaf(run, rest);
+        }
+        let below = Spot {
+            left: self.left - 1,
+            ..self
+        };
+        below.grow_split(run, rest)
+    }
+
+    // A node that splits, with so many levels below its quadrants. Its record is written last, since it has the size.
+    #[cycle(grow_grow_from_grow_split)]
+    fn grow_split(self, run: &mut [u32], rest: &mut [u32]) -> Option<(usize, usize)>
+        requires { (self.left < max_depth) × (max_items < length run.old) × (length run.old ≤ 4096) × All (Readable (length self.ring.now)) run.old × (6 ≤ length rest.old) }
+        ensures { Grew (crop_of (grown (wide self.entry.ring.now) (self.entry.left + 1) self.entry.bounds run.old)) rest.old result run.new rest.new }
+    {
+        let shares = share_out(self.ring, self.bounds, run);
+        let own = shares.own;
+        let bytes = own_size(&run[..own]) + 1;
+        let (nodes, size) = self.grow_from(shares, 0, &mut run[own..], &mut rest[6..])?;
+        write_record(rest, shares, bytes + size);
+        Some((nodes + 1, bytes + size))
+    }
+
+    // The quadrants from q on, whose segments stand one behind the other.
+    #[cycle(grow_grow_from_grow_split)]
+    fn grow_from(
+        self,
+        shares: Shares,
+        q: usize,
+        run: &mut [u32],
+        rest: &mut [u32],
+    ) -> Option<(usize, usize)>
+        requires { (self.left < max_depth) × (q ≤ 4) × (length run.old ≤ 4096) × All (Readable (length self.ring.now)) run.old × (shares_from shares q ≡ length run.old) }
+        ensures { Grew (crop_from (wide self.entry.ring.now) self.entry.left self.entry.bounds shares q run.old) rest.old result run.new rest.new }
+    {
+        if q == 4 {
+            return Some((0, 0));
+        }
+        let n = share_of(shares, q);
+        let quadrant = Spot {
+            bounds: quad_bounds(self.bounds, q),
+            ..self
+        };
+        let (nodes, size) = quadrant.grow(&mut run[..n], rest)?;
+        let used = nodes * 6;
+        let (more, sizes) = self.grow_from(shares, q + 1, &mut run[n..], &mut rest[used..])?;
+        Some((nodes + more, uvarint_len(size as u64) + size + sizes))
     }
 }
 
 // Grows a ring's tree from the segments in `run`; its nodes go to `rest`. For the builder, which has
 // checked the ring.
-pub fn grow_tree(ring: &[i32], bounds: Rect, run: &mut [u32], rest: &mut [u32]) -> Grown
+pub fn grow_tree(ring: &[i32], bounds: Rect, run: &mut [u32], rest: &mut [u32]) -> Option<usize>
     requires { (0 < length run.old) × (length run.old ≤ 4096) × All (Readable (length ring.now)) run.old }
     ensures { TreeGrew (grown (wide ring.now) max_depth bounds run.old) rest.old result run.new rest.new }
 {
-    match grow(ring, QuadTree::Q_MAX_DEPTH, bounds, run, rest) {
-        Growth::Stands(nodes, _) => Grown::Nodes(nodes),
-        Growth::Cramped => Grown::Full,
-    }
+    let root = Spot {
+        ring,
+        left: QuadTree::Q_MAX_DEPTH,
+        bounds,
+    };
+    let (nodes, _) = root.grow(run, rest)?;
+    Some(nodes)
 }

@@ -18,10 +18,6 @@ use Rattle.tree_pack.proofs.Own.{write_two}
 pub part_from : (a : ℕ) (l : List ℕ) → take (length l - a) (drop a l) ≡ drop a l
 part_from a l = take_all (length l - a) (drop a l) (omega (arith, length-drop a l))
 
-sized_long : (bs : List ℕ) → length (sized bs) ≡ length (encode (length bs)) + length bs
-unfolding sized
-sized_long bs = length-append (encode (length bs)) bs
-
 -- ---- quadrants
 module _ (v : Node) (stands : Stands) where
   pub kids_none : (counts run rest : List ℕ) → length counts ≡ 0 → kids_of v counts run rest ≡ ([], 0)

@@ -1,4 +1,5 @@
 -- The classes are the five ways: what is lifted of a marked run are its stayers and those that go to each quadrant. Assumes nothing.
+use Rattle.std.specs.Prelude.{Option, Some, None}
 use Prim.Native.Nat.{ℕ, zero, suc, ◌/◌, ◌%◌, ◌≤◌, ◌<◌}
 use mathlib.Core.Path.{◌≡◌, refl, sym, ap, ap₂, ◌∙◌}
 use mathlib.Core.List.{List, [], ◌∷◌, map}
@@ -8,8 +9,6 @@ use lib.Dec.{eqb}
 use lib.ListN.{length, length-append, length-map}
 use lib.Ieee.{Float, lt}
 use Rattle.boxes.specs.declared.Rect.{Rect}
-use Rattle.boxes.specs.declared.Chosen.{Chosen}
-use Rattle.boxes.specs.declared.Chosen.TheVariants.{Quadrant, Stays}
 use Rattle.boxes.specs.Quads.{quadrant, mid_x, mid_y}
 use Rattle.rings.specs.Ring.{side_at}
 use Rattle.room.specs.Numbers.{cons_if}
@@ -20,21 +19,15 @@ use Rattle.boxes.specs.Segments.{box_of}
 use Rattle.tree_part.specs.Part.{Readable, shares_of, parts_of}
 use Rattle.tree_part.specs.Inner.Halves.{class_of_of, marked, lower, of_class, classes, class_counts}
 
-pub class_last : (q : ℕ) → (q ≡ 0 → ⊥) → (q ≡ 1 → ⊥) → (q ≡ 2 → ⊥) → class_of_of (Quadrant q) ≡ 4
-class_last zero a b c = absurd (a refl)
-class_last (suc zero) a b c = absurd (b refl)
-class_last (suc (suc zero)) a b c = absurd (c refl)
-class_last (suc (suc (suc q))) a b c = refl
-
-pub class_small : (way : Chosen) → class_of_of way ≤ 4
-class_small Stays = omega arith
-class_small (Quadrant zero) = omega arith
-class_small (Quadrant (suc zero)) = omega arith
-class_small (Quadrant (suc (suc zero))) = omega arith
-class_small (Quadrant (suc (suc (suc q)))) = omega arith
+pub class_small : (way : Option ℕ) → class_of_of way ≤ 4
+class_small None = omega arith
+class_small (Some zero) = omega arith
+class_small (Some (suc zero)) = omega arith
+class_small (Some (suc (suc zero))) = omega arith
+class_small (Some (suc (suc (suc q)))) = omega arith
 
 -- a class is told by its number
-abbrev Told : ℕ → (Chosen → Bool) → Chosen → Type 0
+abbrev Told : ℕ → (Option ℕ → Bool) → Option ℕ → Type 0
 Told k t way = eqb (class_of_of way) k ≡ t way
 
 each_told : (w e s n : Bool)
@@ -68,7 +61,7 @@ module _ (ring : ℕ → Float) (box : Rect) where
   unfolding marked
   mark_number i h = omega (arith, class_small (choice ring box i))
 
-  of_marks : (long k : ℕ) (t : Chosen → Bool) → ((i : ℕ) → Told k t (choice ring box i)) → (xs : List ℕ) → All (Readable long) xs
+  of_marks : (long k : ℕ) (t : Option ℕ → Bool) → ((i : ℕ) → Told k t (choice ring box i)) → (xs : List ℕ) → All (Readable long) xs
       → of_class k (marks xs) ≡ those (λ i. t (choice ring box i)) xs
   unfolding of_class those All
   of_marks long k t way [] a = refl

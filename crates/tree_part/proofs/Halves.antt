@@ -61,9 +61,6 @@ pub record Lifting (k at : ℕ) (run₀ run : List ℕ) (p i : ℕ) : Type 0 whe
   pub high : write (map upper run₀) at (of_class k (map lower run₀)) ≡ write (map upper run) p (rest k run i)
   pub place : at + length (of_class k (map lower run₀)) ≡ p + length (rest k run i)
 
-pub lifting : (k at : ℕ) (run : List ℕ) → Lifting k at run run at 0
-lifting k at run = record { long = refl; low = refl; high = refl; place = refl }
-
 module _ (k at : ℕ) (run₀ run : List ℕ) (p i : ℕ) (l : Lifting k at run₀ run p i) where
   -- where there is room for the class, there is for its next
   pub lifting_room : at + length (of_class k (map lower run₀)) ≤ length run₀

@@ -1,11 +1,11 @@
 -- Laws of a loop that turns each number of a run. Assumes nothing.
-use Prim.Native.Nat.{ℕ, suc, ◌+◌, ◌≤◌, ◌<◌}
+use Prim.Native.Nat.{ℕ, suc, ◌+◌, ◌<◌}
 use mathlib.Core.Path.{◌≡◌}
-use mathlib.Core.List.{List, ◌++◌, map, append_assoc, append-nil}
+use mathlib.Core.List.{List, ◌++◌, map, append_assoc}
 use native.Mathlib.Omega.{arith}
 use native.Mathlib.Numerals.{add-one}
-use lib.ListN.{length, get_or, take, drop, set, drop_of_length-le}
-use lib.Seq.{take_all, drop-cons, take-suc-set, drop-set-lt}
+use lib.ListN.{length, get_or, take, drop, set}
+use lib.Seq.{drop-cons, take-suc-set, drop-set-lt}
 use Rattle.tree.specs.All.{All}
 
 module _ (f : ℕ → ℕ) where
@@ -16,9 +16,6 @@ module _ (f : ℕ → ℕ) where
   pub turned_next : (m : List ℕ) (i v : ℕ) → i < length m → v ≡ f (get_or m i 0) → turned_from i m ≡ turned_from (i + 1) (set m i v)
   turned_next m i v h e =
       rw (add-one i, take-suc-set m i v h, drop-set-lt (suc i) m i v (omega arith), drop-cons m i 0 h, e, append_assoc)
-
-  pub turned_all : (m : List ℕ) (i : ℕ) → length m ≤ i → turned_from i m ≡ m
-  turned_all m i h = rw (take_all i m h, drop_of_length-le m h) (append-nil m)
 
 -- what holds of each number that is still to be turned
 module _ (P : ℕ → Type 0) (m : List ℕ) (i : ℕ) (h : i < length m) (a : All P (drop i m)) where

@@ -7,10 +7,10 @@ ghost use Rattle.tree.specs.All.{All};
 ghost use Rattle.tree_part.specs.Part.{Readable, shared_out};
 ghost use Rattle.tree_part.specs.Inner.Halves.{class_of_of, marked, lower, upper, of_class, Lifted, classes, class_counts};
 
-use boxes::{Chosen, Rect, choose_quad};
+use boxes::{Rect, choose_quad};
 use rings::segment_at;
 
-// How many of the segments stay, and how many go to each quadrant.
+// How many of the segments stay, and how many go to each quadrant, by the quadrants' names.
 #[derive(Clone, Copy)]
 pub struct Shares {
     pub own: usize,
@@ -20,18 +20,17 @@ pub struct Shares {
     pub se: usize,
 }
 
-// A segment's class, in the order in which the classes are to stand.
-fn class_of(way: Chosen) -> u32
+// A segment's class, in the order in which the classes are to stand. Classes are numbers and no enum: they are marks in
+// the u32 of the lent room, put there by an addition and read back by a division.
+fn class_of(way: Option<usize>) -> u32
     ensures { result ≡ class_of_of way }
 {
     match way {
-        Chosen::Stays => 0,
-        Chosen::Quadrant(q) => match q {
-            0 => 1,
-            1 => 2,
-            2 => 3,
-            _ => 4,
-        },
+        None => 0,
+        Some(0) => 1,
+        Some(1) => 2,
+        Some(2) => 3,
+        Some(_) => 4,
     }
 }
 
@@ -44,33 +43,29 @@ fn mark(ring: &[i32], bounds: Rect, x: u32) -> u32
     x + 4096 * class_of(choose_quad(bounds, segment.rect()))
 }
 
-// Marks every segment of the run.
+// Marks every segment of the run. That each can be read stays a clause, here and below: `share_out` is promised with plain
+// arguments (docs/PROMISES.md), and the run, lent as `&mut`, changes.
 fn mark_all(ring: &[i32], bounds: Rect, run: &mut [u32])
     requires { All (Readable (length ring.now)) run.old }
     ensures { run.new ≡ map (marked (wide ring.now) bounds) run.old }
 {
-    let mut i: usize = 0;
-    while i < run.len() {
-        run[i] = mark(ring, bounds, run[i]);
-        i += 1;
+    for x in run.iter_mut() {
+        *x = mark(ring, bounds, *x);
     }
 }
 
-// The segments of one class go to the upper halves from `at` on. Answers the place past them.
+// The segments of one class go to the upper halves from `at` on. Answers the place past them. The place is counted by hand,
+// since it moves only past a segment of the class, and the loop goes over numbers, since it writes elsewhere than it reads.
 fn lift(run: &mut [u32], class: u32, at: usize) -> usize
     requires { at + length (of_class class (map lower run.old)) ≤ length run.old }
     ensures { Lifted class at run.old run.new result }
 {
     let mut p = at;
-    let mut i: usize = 0;
-    while i < run.len() {
+    for i in 0..run.len() {
         let x = run[i] % 65536;
         if x / 4096 == class {
             run[p] = run[p] % 65536 + 65536 * (x % 4096);
             p += 1;
-            i += 1;
-        } else {
-            i += 1;
         }
     }
     p
@@ -100,10 +95,8 @@ fn lift_all(run: &mut [u32]) -> Shares
 fn settle(run: &mut [u32])
     ensures { run.new ≡ map upper run.old }
 {
-    let mut i: usize = 0;
-    while i < run.len() {
-        run[i] = run[i] / 65536;
-        i += 1;
+    for x in run.iter_mut() {
+        *x /= 65536;
     }
 }
 

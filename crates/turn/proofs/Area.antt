@@ -11,7 +11,7 @@ use Rattle.rings.specs.Ring.{segment_at, segments}
 use Rattle.rings.specs.Checks.{closed}
 use Rattle.rings.proofs.Whole.{split, diff_add, diff_sub, diff_mul, diff_same}
 use Rattle.turn.specs.Turn.{sum_to, part, doubled_area}
-use Rattle.turn.specs.Inner.Halves.{product}
+use Rattle.turn.specs.Inner.Halves.{plus_of, minus_of}
 use Rattle.turn.proofs.Sums.{sum_same, sum_sub, sum_add, sum_steps, cancel}
 use Rattle.turn.proofs.Rows.{ends}
 
@@ -34,23 +34,29 @@ module _ (ring : List ℤ) where
   lift : ℕ → ℤ
   lift i = pos (2 ^ 31) *ℤ (at (i * 2) -ℤ at (i * 2 + 1))
 
-  segment_part : (i : ℕ) → product ring 0 3 i -ℤ product ring 2 1 i ≡ part (segment_at ring i) +ℤ (lift i -ℤ lift (suc i))
-  unfolding at lift
+  plus : ℕ → ℤ
+  plus i = plus_of (segment_at ring i)
+
+  minus : ℕ → ℤ
+  minus i = minus_of (segment_at ring i)
+
+  segment_part : (i : ℕ) → plus i -ℤ minus i ≡ part (segment_at ring i) +ℤ (lift i -ℤ lift (suc i))
+  unfolding at lift plus minus
   segment_part i =
-      let first : i * 2 + 0 ≡ i * 2 = omega arith in
       let x : suc i * 2 ≡ i * 2 + 2 = omega arith in
       let y : suc i * 2 + 1 ≡ i * 2 + 3 = omega arith in
-      rw (first, y, x) (raised_part (pos (2 ^ 31)) (at (i * 2)) (at (i * 2 + 1)) (at (i * 2 + 2)) (at (i * 2 + 3)))
+      rw (y, x) (raised_part (pos (2 ^ 31)) (at (i * 2)) (at (i * 2 + 1)) (at (i * 2 + 2)) (at (i * 2 + 3)))
 
   -- for a closed ring nothing is added
-  pub area_is : (points : ℕ) → closed ring points ≡ true → doubled_area ring points ≡ sum_to (product ring 0 3) (segments points) -ℤ sum_to (product ring 2 1) (segments points)
-  unfolding at lift
+  pub area_is : (points : ℕ) → closed ring points ≡ true
+      → doubled_area ring points ≡ sum_to (λ i. plus_of (segment_at ring i)) (segments points) -ℤ sum_to (λ i. minus_of (segment_at ring i)) (segments points)
+  unfolding at lift plus minus
   area_is points shut =
       let n = segments points in
       let level : lift 0 ≡ lift n = ap (λ (p : I32Point). pos (2 ^ 31) *ℤ (p.x -ℤ p.y)) (ends ring points shut) in
       sym (
-      sum_sub (product ring 0 3) (product ring 2 1) n
-      ∙ sum_same (λ i. product ring 0 3 i -ℤ product ring 2 1 i) (λ i. part (segment_at ring i) +ℤ (lift i -ℤ lift (suc i))) n segment_part
+      sum_sub plus minus n
+      ∙ sum_same (λ i. plus i -ℤ minus i) (λ i. part (segment_at ring i) +ℤ (lift i -ℤ lift (suc i))) n segment_part
       ∙ sum_add (λ i. part (segment_at ring i)) (λ i. lift i -ℤ lift (suc i)) n
       ∙ ap (λ (z : ℤ). doubled_area ring points +ℤ z) (sum_steps lift n ∙ ap (λ (z : ℤ). z -ℤ lift n) level ∙ cancel (lift n))
       ∙ +ℤ_idr (doubled_area ring points))

@@ -1,5 +1,6 @@
 -- An accepted ring whose points are all on one line has no turn (`line_turned`); so has one of a single point repeated
 -- (`point_turned`). Assumes nothing.
+use Rattle.std.specs.Prelude.{Ok}
 use Prim.Native.Nat.{ℕ, zero, suc, ◌*◌, ◌<◌}
 use mathlib.Core.Path.{◌≡◌, refl, sym, ap, ap₂, ◌∙◌}
 use mathlib.Core.Bool.{true}
@@ -7,13 +8,11 @@ use mathlib.Core.List.{List}
 use native.Mathlib.Omega.{arith}
 use lib.IntN.{ℤ, pos, negsuc, neg_ℤ, ◌+ℤ◌, ◌-ℤ◌, ◌*ℤ◌, +ℤ_idr, +ℤ_comm, *ℤ_comm, *ℤ-one, zero-*ℤ, one, neg_ℤ-neg_ℤ, nat_abs, ℤ_discrete}
 use Rattle.boxes.specs.declared.I32Point.{I32Point}
-use Rattle.rings.specs.declared.Checked.TheVariants.{Sound}
 use Rattle.rings.specs.Ring.{point_at, segments}
 use Rattle.rings.specs.Checks.{closed, ring_checked}
 use Rattle.rings.proofs.Whole.{split, diff_add, diff_sub, diff_mul, diff_same}
 use Rattle.rings.proofs.Checks.{sound_ring}
 use Rattle.turn.specs.declared.Turning.TheVariants.{None}
-use Rattle.turn.specs.declared.Turned.TheVariants.{Turns}
 use Rattle.turn.specs.Turn.{doubled_area, turned}
 use Rattle.turn.specs.Line.{Line, OnLine}
 use Rattle.turn.proofs.Sums.{sum_below, sum_steps, sum_times, cancel}
@@ -106,10 +105,10 @@ module _ (l : Line) (ring : List ℤ) (points : ℕ) (on : OnLine l ring points)
         | no some ↦ no_divisors l.b (doubled_area ring points) no_b some
       ]
 
-pub line_turned : (l : Line) (ring : List ℤ) (points : ℕ) → OnLine l ring points → ring_checked ring points ≡ Sound → turned ring points ≡ Turns None
+pub line_turned : (l : Line) (ring : List ℤ) (points : ℕ) → OnLine l ring points → ring_checked ring points ≡ Ok tt → turned ring points ≡ Ok None
 unfolding turned
 line_turned l ring points on sound =
-    rw (sound, line_area l ring points on (sound_ring ring points sound).shut) (ap Turns flat_none)
+    rw (sound, line_area l ring points on (sound_ring ring points sound).shut) (ap Ok flat_none)
 
 -- ---- one point, repeated
 
@@ -117,7 +116,7 @@ upright : ℤ → Line
 upright x = record { a = pos 1; b = pos 0; c = x; runs = λ e f. let z : ◌≡◌ {A = ℕ} 1 0 = cc in omega arith }
 
 pub point_turned : (p : I32Point) (ring : List ℤ) (points : ℕ) → ((i : ℕ) → i < points → point_at ring i ≡ p)
-    → ring_checked ring points ≡ Sound → turned ring points ≡ Turns None
+    → ring_checked ring points ≡ Ok tt → turned ring points ≡ Ok None
 unfolding upright one
 point_turned p ring points same sound = line_turned (upright p.x) ring points on sound
   where

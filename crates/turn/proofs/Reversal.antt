@@ -5,6 +5,7 @@
 -- stays none (`reversed_sign`). An accepted ring stays accepted (`reversed_sound`); any ring of two numbers a point is refused
 -- as before or not at all (`reversed_checked`), so that the call's whole answer is known (`reversed_turned`). Twice reversed is
 -- the ring again (`reversed_twice`).
+use Rattle.std.specs.Prelude.{Ok, Err}
 use Prim.Native.Nat.{ℕ, zero, suc, ◌*◌, ◌-◌, ◌<◌}
 use mathlib.Core.Path.{◌≡◌, refl, sym, ap, ap₂, ◌∙◌}
 use mathlib.Core.Bool.{◌&&◌}
@@ -15,8 +16,7 @@ use lib.ListN.{length}
 use lib.IntN.{ℤ, pos, negsuc, neg_ℤ, ◌+ℤ◌, neg_ℤ-+ℤ, +ℤ_comm}
 use borrow.Author.Tests.{eq-eqb, lt-ltb}
 use Rattle.boxes.specs.declared.I32Point.{I32Point}
-use Rattle.rings.specs.declared.Checked.{Checked}
-use Rattle.rings.specs.declared.Checked.TheVariants.{Sound, Faulty}
+use Rattle.rings.specs.Checks.{Checked}
 use Rattle.rings.specs.Ring.{point_at, segments}
 use Rattle.rings.specs.Checks.{eq_z, same_point, closed, ring_checked}
 use Rattle.rings.proofs.Checks.{sound_ring}
@@ -105,12 +105,12 @@ reversed_checked ring points sizes =
           )
     ]
 
-pub reversed_sound : (ring : List ℤ) (points : ℕ) → ring_checked ring points ≡ Sound → ring_checked (reversed ring points) points ≡ Sound
+pub reversed_sound : (ring : List ℤ) (points : ℕ) → ring_checked ring points ≡ Ok tt → ring_checked (reversed ring points) points ≡ Ok tt
 reversed_sound ring points sound = reversed_checked ring points (sound_ring ring points sound).sizes ∙ sound
 
 when_opposite : (checked : Checked) (turning : Turning) → when_sound checked (opposite turning) ≡ oppositely (when_sound checked turning)
-when_opposite Sound turning = refl
-when_opposite (Faulty why) turning = refl
+when_opposite (Ok _) turning = refl
+when_opposite (Err why) turning = refl
 
 pub reversed_turned : (ring : List ℤ) (points : ℕ) → points * 2 ≡ length ring → turned (reversed ring points) points ≡ oppositely (turned ring points)
 unfolding turned

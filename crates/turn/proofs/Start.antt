@@ -1,5 +1,6 @@
 -- An accepted ring started at another of its points, and closed there, is accepted and has the same turn (`started_turned`).
 -- Its doubled area is the same number (`started_area`). Assumes nothing.
+use Rattle.std.specs.Prelude.{Ok}
 use Prim.Native.Nat.{ℕ, suc, ◌+◌, ◌*◌, ◌-◌, ◌<◌, ◌≤◌}
 use mathlib.Core.Path.{◌≡◌, sym, ap, ap₂, ◌∙◌}
 use mathlib.Core.Bool.{true}
@@ -10,8 +11,7 @@ use lib.ListN.{length}
 use lib.IntN.{ℤ, ◌+ℤ◌, +ℤ_comm}
 use borrow.Author.Tests.{le-leb, lt-leb, eq-eqb, le-ltb}
 use Rattle.boxes.specs.declared.I32Point.{I32Point}
-use Rattle.rings.specs.declared.Checked.{Checked}
-use Rattle.rings.specs.declared.Checked.TheVariants.{Sound}
+use Rattle.rings.specs.Checks.{Checked}
 use Rattle.rings.specs.Ring.{point_at, segments}
 use Rattle.rings.specs.Checks.{same_point, closed, ring_checked}
 use Rattle.rings.proofs.Whole.{eq_z_refl}
@@ -95,7 +95,7 @@ module _ (ring : List ℤ) (points k : ℕ) (inside : k ≤ segments points) whe
       ∙ past_end (point_at ring) n k inside (ends ring points shut) k (k + n) (omega arith) in
       ap₂ same_point first last ∙ same_point_lem (point_at ring k)
 
-  pub started_sound : ring_checked ring points ≡ Sound → ring_checked (started_at k ring points) points ≡ Sound
+  pub started_sound : ring_checked ring points ≡ Ok tt → ring_checked (started_at k ring points) points ≡ Ok tt
   unfolding started_at ring_checked
   started_sound sound =
       let a = sound_ring ring points sound in
@@ -107,7 +107,7 @@ module _ (ring : List ℤ) (points k : ℕ) (inside : k ≤ segments points) whe
         started_closed (omega (arith, a.enough)) a.shut,
       )
 
-  pub started_turned : ring_checked ring points ≡ Sound → turned (started_at k ring points) points ≡ turned ring points
+  pub started_turned : ring_checked ring points ≡ Ok tt → turned (started_at k ring points) points ≡ turned ring points
   unfolding turned
   started_turned sound =
       ap₂ (λ (checked : Checked) (area : ℤ). when_sound checked (turn_of area))

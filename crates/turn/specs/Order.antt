@@ -1,11 +1,11 @@
 -- The same points in another order: a ring run through backwards, or from another of its points.
+use Rattle.std.specs.Prelude.{Ok, Err}
 use Rattle.std.specs.Prelude.{ℕ, zero, suc, ◌+◌, ◌-◌, cond, List, [], ◌∷◌, leb, ℤ}
 use Rattle.boxes.specs.declared.I32Point.{I32Point}
 use Rattle.rings.specs.Ring.{point_at, segments}
 use Rattle.turn.specs.declared.Turning.{Turning}
 use Rattle.turn.specs.declared.Turning.TheVariants.{Anticlockwise, Clockwise, None}
-use Rattle.turn.specs.declared.Turned.{Turned}
-use Rattle.turn.specs.declared.Turned.TheVariants.{Turns, Unturned}
+use Rattle.turn.specs.Turn.{Turned}
 
 -- the first n points of a row, as a ring is lent: each point's x, then its y
 unfoldable pub ring_of : (ℕ → I32Point) → ℕ → List ℤ
@@ -31,5 +31,5 @@ opposite Clockwise = Anticlockwise
 opposite None = None
 
 abbrev pub oppositely : Turned → Turned
-oppositely (Turns turning) = Turns (opposite turning)
-oppositely (Unturned why) = Unturned why
+oppositely (Ok turning) = Ok (opposite turning)
+oppositely (Err why) = Err why

@@ -1,15 +1,17 @@
 -- 01, "Turn": anticlockwise when the exact doubled signed area is above zero, clockwise when it is below zero, none when it is 0.
-use Rattle.std.specs.Prelude.{ℕ, zero, suc, cond, List, ℤ, pos, ◌+ℤ◌, ◌-ℤ◌, ◌*ℤ◌}
+use Rattle.std.specs.Prelude.{Result, Ok, Err, ℕ, zero, suc, cond, List, ℤ, pos, ◌+ℤ◌, ◌-ℤ◌, ◌*ℤ◌}
 use Rattle.std.specs.Int.Signed.{lt_z}
+use Rattle.answers.specs.declared.Refusal.{Refusal}
 use Rattle.boxes.specs.declared.Segment.{Segment}
-use Rattle.rings.specs.declared.Checked.{Checked}
-use Rattle.rings.specs.declared.Checked.TheVariants.{Sound, Faulty}
+use Rattle.rings.specs.Checks.{Checked}
 use Rattle.rings.specs.Ring.{segment_at, segments}
 use Rattle.rings.specs.Checks.{ring_checked}
 use Rattle.turn.specs.declared.Turning.{Turning}
 use Rattle.turn.specs.declared.Turning.TheVariants.{Anticlockwise, Clockwise, None}
-use Rattle.turn.specs.declared.Turned.{Turned}
-use Rattle.turn.specs.declared.Turned.TheVariants.{Turns, Unturned}
+
+-- what the call answers: a turn, or a refusal
+abbrev pub Turned : Type 0
+Turned = Result Turning Refusal
 
 -- the sum of the first n of a row of whole numbers
 unfoldable pub sum_to : (ℕ → ℤ) → ℕ → ℤ
@@ -35,8 +37,8 @@ number_of Anticlockwise = 1
 number_of None = 2
 
 abbrev pub when_sound : Checked → Turning → Turned
-when_sound Sound turning = Turns turning
-when_sound (Faulty why) turning = Unturned why
+when_sound (Ok _) turning = Ok turning
+when_sound (Err why) turning = Err why
 
 -- rules 1 to 4, then the turn
 unfoldable pub turned : List ℤ → ℕ → Turned

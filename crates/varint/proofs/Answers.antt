@@ -1,4 +1,5 @@
 -- What an answer tells: of a number that was read, and 01's number and place of each refusal.
+use Rattle.std.specs.Prelude.{Ok, Err}
 use Prim.Native.Nat.{ℕ, ◌+◌, ◌^◌, ◌≤◌, ◌<◌, min}
 use mathlib.Core.Path.{◌≡◌, refl, sym, ap, ◌∙◌}
 use mathlib.Core.List.{List}
@@ -14,8 +15,6 @@ use Rattle.answers.specs.declared.Refusal.TheVariants.{NoRoom, Damaged, Loose}
 use Rattle.room.proofs.Cases.{lt_or, both}
 use Rattle.varint.specs.Leb128.{decode, size, encode}
 use Rattle.varint.specs.Uvarint.{most, tight, read_uvarint, append_uvarint}
-use Rattle.varint.specs.declared.ReadUvarint.TheVariants.{Value, Unread}
-use Rattle.varint.specs.declared.AppendUvarint.TheVariants.{Unappended}
 use Rattle.varint.proofs.Leb128.{encode_some}
 use Rattle.varint.proofs.Writing.{append_fits, append_short}
 
@@ -40,15 +39,15 @@ module _ (w : ℕ) (part : List ℕ) (at : ℕ) where
   field = drop at part
 
   pub read_fits : size field ≤ min (most w) (length field) → tight w field ≡ true
-      → read_uvarint w part at ≡ Value (decode field) (at + size field)
+      → read_uvarint w part at ≡ Ok (decode field, at + size field)
   unfolding read_uvarint
   read_fits h t = rw (le-leb (size field) (min (most w) (length field)) h, t)
 
-  pub read_loose : size field ≤ min (most w) (length field) → tight w field ≡ false → read_uvarint w part at ≡ Unread (Loose at)
+  pub read_loose : size field ≤ min (most w) (length field) → tight w field ≡ false → read_uvarint w part at ≡ Err (Loose at)
   unfolding read_uvarint
   read_loose h t = rw (le-leb (size field) (min (most w) (length field)) h, t)
 
-  pub read_not : min (most w) (length field) < size field → read_uvarint w part at ≡ Unread (Damaged at)
+  pub read_not : min (most w) (length field) < size field → read_uvarint w part at ≡ Err (Damaged at)
   unfolding read_uvarint
   read_not h = rw (lt-leb (size field) (min (most w) (length field)) h)
 
@@ -62,15 +61,16 @@ module _ (w : ℕ) (part : List ℕ) (at : ℕ) where
       go l true e = fits l e
       go l false e = loose l e
 
-  pub read_whole : (x next : ℕ) → read_uvarint w part at ≡ Value x next → Whole w part at x next
+  pub read_whole : (x next : ℕ) → read_uvarint w part at ≡ Ok (x, next) → Whole w part at x next
   read_whole x next e =
       by_cases
       (λ no. let q = sym (read_not no) ∙ e in let z : ◌≡◌ {A = ℕ} 0 1 = cc in absurd (omega arith))
       (λ fits loose. let q = sym (read_loose fits loose) ∙ e in let z : ◌≡◌ {A = ℕ} 0 1 = cc in absurd (omega arith))
       (λ fits good.
       let q = sym (read_fits fits good) ∙ e in
-      let v : x ≡ decode field = cc in
-      let n : next ≡ at + size field = cc in
+      let o : ◌≡◌ {A = ℕ × ℕ} (x, next) (decode field, at + size field) = cc in
+      let v : x ≡ decode field = ap (λ (y : ℕ × ℕ). y.0) o in
+      let n : next ≡ at + size field = ap (λ (y : ℕ × ℕ). y.1) o in
       let s = eqb-true (size field) (length (encode (decode field))) (first (eqb (size field) (length (encode (decode field)))) (ltb (decode field) (2 ^ w)) good) in
       let k : length (encode x) ≡ length (encode (decode field)) = ap (λ (y : ℕ). length (encode y)) v in
       record {
@@ -82,7 +82,7 @@ module _ (w : ℕ) (part : List ℕ) (at : ℕ) where
       })
 
   -- so it has at least one byte, and ends inside the part
-  pub read_onward : (x next : ℕ) → read_uvarint w part at ≡ Value x next → (at < next) × (next ≤ length part)
+  pub read_onward : (x next : ℕ) → read_uvarint w part at ≡ Ok (x, next) → (at < next) × (next ≤ length part)
   read_onward x next e =
       let r = read_whole x next e in
       let some = encode_some x in
@@ -90,7 +90,7 @@ module _ (w : ℕ) (part : List ℕ) (at : ℕ) where
       (omega (arith, r.place), omega (arith, r.place, r.short, r.complete))
 
   -- what cannot be read is 9 or 15, with the byte where it starts
-  pub unread_is_9_or_15 : (r : Refusal) → read_uvarint w part at ≡ Unread r → ((number_of r ≡ 9) ⊎ (number_of r ≡ 15)) × (place_of r ≡ at)
+  pub unread_is_9_or_15 : (r : Refusal) → read_uvarint w part at ≡ Err r → ((number_of r ≡ 9) ⊎ (number_of r ≡ 15)) × (place_of r ≡ at)
   unread_is_9_or_15 r e =
       by_cases
       (λ no. let q = sym (read_not no) ∙ e in let d : r ≡ Damaged at = cc in (inl (ap number_of d), ap place_of d))
@@ -98,7 +98,7 @@ module _ (w : ℕ) (part : List ℕ) (at : ℕ) where
       (λ fits good. let q = sym (read_fits fits good) ∙ e in let z : ◌≡◌ {A = ℕ} 0 1 = cc in absurd (omega arith))
 
 -- what does not fit is 8
-pub unappended_is_8 : (out : List ℕ) (at x : ℕ) (r : Refusal) (o : List ℕ) → append_uvarint out at x ≡ (Unappended r, o)
+pub unappended_is_8 : (out : List ℕ) (at x : ℕ) (r : Refusal) (o : List ℕ) → append_uvarint out at x ≡ (Err r, o)
     → (number_of r ≡ 8) × (place_of r ≡ 0)
 unappended_is_8 out at x r o e =
     ⊎_elim

@@ -1,5 +1,6 @@
 -- Reading and writing are inverse to each other (02, CR 6), over the width. `holds_reads` and those behind it (Back) say that what was written is read; here:
 -- whatever is read, its number written again is exactly the bytes that were read.
+use Rattle.std.specs.Prelude.{Ok}
 use Prim.Native.Nat.{ℕ, ◌+◌, ◌-◌, ◌^◌, ◌≤◌, ◌<◌}
 use mathlib.Core.Path.{◌≡◌, sym, ap, ◌∙◌}
 use mathlib.Core.List.{List, ◌++◌}
@@ -13,8 +14,6 @@ use Rattle.room.proofs.Cases.{lt_or}
 use Rattle.varint.specs.Bytes.{Bytes}
 use Rattle.varint.specs.Leb128.{decode, size, encode}
 use Rattle.varint.specs.Uvarint.{read_uvarint, append_uvarint}
-use Rattle.varint.specs.declared.ReadUvarint.TheVariants.{Value}
-use Rattle.varint.specs.declared.AppendUvarint.TheVariants.{Appended}
 use Rattle.varint.proofs.Answers.{read_whole, read_onward}
 use Rattle.varint.proofs.Back.{holds_reads}
 use Rattle.varint.proofs.Shortest.{shortest_bytes}
@@ -36,7 +35,7 @@ pub record ReadsAs (w : ℕ) (part : List ℕ) (at x next : ℕ) : Type 0 where
   pub place : next ≡ at + length (encode x)
 
 module _ (w : ℕ) (part : List ℕ) (at x next : ℕ) where
-  pub read_stands : Bytes part → read_uvarint w part at ≡ Value x next → ReadsAs w part at x next
+  pub read_stands : Bytes part → read_uvarint w part at ≡ Ok (x, next) → ReadsAs w part at x next
   unfolding Holds
   read_stands bytes e =
       let r = read_whole w part at x next e in
@@ -48,12 +47,12 @@ module _ (w : ℕ) (part : List ℕ) (at x next : ℕ) where
         place = r.place;
       }
 
-  pub stands_read : 0 < w → ReadsAs w part at x next → read_uvarint w part at ≡ Value x next
-  stands_read bits r = holds_reads w bits x r.small part at r.stands ∙ ap (λ (n : ℕ). Value x n) (sym r.place)
+  pub stands_read : 0 < w → ReadsAs w part at x next → read_uvarint w part at ≡ Ok (x, next)
+  stands_read bits r = holds_reads w bits x r.small part at r.stands ∙ ap (λ (n : ℕ). Ok (x, n)) (sym r.place)
 
 -- Two byte strings that are read as one number are one byte string.
 pub read_once : (w : ℕ) (part part' : List ℕ) (at at' x next next' : ℕ) → Bytes part → Bytes part'
-    → read_uvarint w part at ≡ Value x next → read_uvarint w part' at' ≡ Value x next'
+    → read_uvarint w part at ≡ Ok (x, next) → read_uvarint w part' at' ≡ Ok (x, next')
     → take (next - at) (drop at part) ≡ take (next' - at') (drop at' part')
 unfolding Holds
 read_once w part part' at at' x next next' bytes bytes' e e' =
@@ -64,8 +63,8 @@ read_once w part part' at at' x next next' bytes bytes' e e' =
     rw (k, k') (r.stands ∙ sym r'.stands)
 
 -- A number that was read, put in its own place again, leaves the bytes up to the next place as they were.
-pub read_append : (w : ℕ) (part : List ℕ) (at x next : ℕ) → Bytes part → read_uvarint w part at ≡ Value x next
-    → append_uvarint part at x ≡ (Appended next, pad (length part) (take next part))
+pub read_append : (w : ℕ) (part : List ℕ) (at x next : ℕ) → Bytes part → read_uvarint w part at ≡ Ok (x, next)
+    → append_uvarint part at x ≡ (Ok next, pad (length part) (take next part))
 unfolding Holds
 read_append w part at x next bytes e =
     let r = read_stands w part at x next bytes e in

@@ -1,4 +1,5 @@
 -- The reading of a number a byte at a time: what the loop of `read_uvarint` goes by.
+use Rattle.std.specs.Prelude.{Ok, Err}
 use Prim.Native.Nat.{ℕ, ◌+◌, ◌-◌, ◌*◌, ◌^◌, ◌≤◌, ◌<◌, min}
 use mathlib.Core.Path.{◌≡◌, sym, ap, ap₂, ◌∙◌}
 use mathlib.Core.List.{List, [], ◌∷◌}
@@ -14,8 +15,7 @@ use Rattle.answers.specs.declared.Refusal.TheVariants.{Damaged, Loose}
 use Rattle.room.proofs.Cases.{lt_or}
 use Rattle.varint.specs.Leb128.{decode, size}
 use Rattle.varint.specs.Uvarint.{most, read_uvarint}
-use Rattle.varint.specs.declared.ReadUvarint.{ReadUvarint}
-use Rattle.varint.specs.declared.ReadUvarint.TheVariants.{Value, Unread}
+use Rattle.varint.specs.Uvarint.{ReadUvarint}
 use Rattle.varint.proofs.Leb128.{decode_last, decode_more, size_last, size_more, size_some}
 use Rattle.varint.proofs.Shortest.{shortest, shortest_last, shortest_more, shortest_none, zero_or}
 
@@ -28,35 +28,35 @@ module _ (w start : ℕ) where
   unfoldable pub read_on : ℕ → List ℕ → ℕ → ℕ → ℕ → ReadUvarint
   read_on n field p x v =
       cond (leb (size field) (min n (length field)))
-      (cond (tight_on field p x v) (Value (x + decode field * v) (p + size field)) (Unread (Loose start)))
-      (Unread (Damaged start))
+      (cond (tight_on field p x v) (Ok (x + decode field * v, p + size field)) (Err (Loose start)))
+      (Err (Damaged start))
 
   module _ (n : ℕ) (field : List ℕ) (p x v : ℕ) where
     on_whole : size field ≤ min n (length field)
-        → read_on n field p x v ≡ cond (tight_on field p x v) (Value (x + decode field * v) (p + size field)) (Unread (Loose start))
+        → read_on n field p x v ≡ cond (tight_on field p x v) (Ok (x + decode field * v, p + size field)) (Err (Loose start))
     unfolding read_on
     on_whole h = rw (le-leb (size field) (min n (length field)) h)
 
-    on_not : min n (length field) < size field → read_on n field p x v ≡ Unread (Damaged start)
+    on_not : min n (length field) < size field → read_on n field p x v ≡ Err (Damaged start)
     unfolding read_on
     on_not h = rw (lt-leb (size field) (min n (length field)) h)
 
   -- the last byte
   module _ (n b : ℕ) (bs : List ℕ) (p x v : ℕ) (h : 0 < n) (l : b < 128) where
-    on_end : read_on n (b ∷ bs) p x v ≡ cond (not (eqb b 0 && ltb start p) && ltb (x + b * v) (2 ^ w)) (Value (x + b * v) (p + 1)) (Unread (Loose start))
+    on_end : read_on n (b ∷ bs) p x v ≡ cond (not (eqb b 0 && ltb start p) && ltb (x + b * v) (2 ^ w)) (Ok (x + b * v, p + 1)) (Err (Loose start))
     on_end =
         let s = size_last b bs l in
         on_whole n (b ∷ bs) p x v (omega arith)
         ∙ rw (shortest_last b bs l)
-        (ap₂ (λ (d k : ℕ). cond (not (eqb d 0 && ltb start p) && ltb (x + d * v) (2 ^ w)) (Value (x + d * v) (p + k)) (Unread (Loose start))) (decode_last b bs l) s)
+        (ap₂ (λ (d k : ℕ). cond (not (eqb d 0 && ltb start p) && ltb (x + d * v) (2 ^ w)) (Ok (x + d * v, p + k)) (Err (Loose start))) (decode_last b bs l) s)
 
-    on_last : (eqb b 0 && ltb start p) ≡ false → x + b * v < 2 ^ w → read_on n (b ∷ bs) p x v ≡ Value (x + b * v) (p + 1)
+    on_last : (eqb b 0 && ltb start p) ≡ false → x + b * v < 2 ^ w → read_on n (b ∷ bs) p x v ≡ Ok (x + b * v, p + 1)
     on_last z k = on_end ∙ rw (z, lt-ltb (x + b * v) (2 ^ w) k)
 
-    on_zero : (eqb b 0 && ltb start p) ≡ true → read_on n (b ∷ bs) p x v ≡ Unread (Loose start)
+    on_zero : (eqb b 0 && ltb start p) ≡ true → read_on n (b ∷ bs) p x v ≡ Err (Loose start)
     on_zero z = on_end ∙ rw z
 
-    on_high : 2 ^ w ≤ x + b * v → read_on n (b ∷ bs) p x v ≡ Unread (Loose start)
+    on_high : 2 ^ w ≤ x + b * v → read_on n (b ∷ bs) p x v ≡ Err (Loose start)
     on_high k = on_end ∙ rw (le-ltb (x + b * v) (2 ^ w) k, and-false)
 
   -- a byte that others follow
@@ -83,8 +83,8 @@ module _ (w start : ℕ) where
         on_not n (b ∷ bs) p x v (omega arith) ∙ sym (on_not (n - 1) bs (p + 1) (x + (b - 128) * v) (v * 128) no))
         (λ (fits : size bs ≤ min (n - 1) (length bs)).
         on_whole n (b ∷ bs) p x v (omega arith)
-        ∙ ap (λ (t : Bool). cond t (Value (x + decode (b ∷ bs) * v) (p + size (b ∷ bs))) (Unread (Loose start))) (tight_more s)
-        ∙ ap₂ (λ (y q : ℕ). cond (tight_on bs (p + 1) (x + (b - 128) * v) (v * 128)) (Value y q) (Unread (Loose start))) sum (omega arith)
+        ∙ ap (λ (t : Bool). cond t (Ok (x + decode (b ∷ bs) * v, p + size (b ∷ bs))) (Err (Loose start))) (tight_more s)
+        ∙ ap₂ (λ (y q : ℕ). cond (tight_on bs (p + 1) (x + (b - 128) * v) (v * 128)) (Ok (y, q)) (Err (Loose start))) sum (omega arith)
         ∙ sym (on_whole (n - 1) bs (p + 1) (x + (b - 128) * v) (v * 128) fits))
         (lt_or (min (n - 1) (length bs)) (size bs))
 
@@ -108,7 +108,7 @@ module _ (w start : ℕ) (src : List ℕ) (end : ℕ) where
       ∙ ap₂ (λ (b q : ℕ). b ∷ drop q (take end src)) (get_or-take end src p 0 (omega arith)) (sym (add-one p))
 
   module _ (n p x v : ℕ) where
-    pub at_past : min end (length src) ≤ p → read_at_lem n p x v ≡ Unread (Damaged start)
+    pub at_past : min end (length src) ≤ p → read_at_lem n p x v ≡ Err (Damaged start)
     unfolding read_at_lem size
     at_past h =
         rw (drop_of_length-le (take end src) {i = p} (rw length-take h))
@@ -117,15 +117,15 @@ module _ (w start : ℕ) (src : List ℕ) (end : ℕ) where
     module _ (inside : p < min end (length src)) where
       module _ (h : 0 < n) (l : get_or src p 0 < 128) where
         pub at_last : (eqb (get_or src p 0) 0 && ltb start p) ≡ false → x + get_or src p 0 * v < 2 ^ w
-            → read_at_lem n p x v ≡ Value (x + get_or src p 0 * v) (p + 1)
+            → read_at_lem n p x v ≡ Ok (x + get_or src p 0 * v, p + 1)
         unfolding read_at_lem
         at_last z k = rw (next_byte p inside) (on_last w start n (get_or src p 0) (drop (p + 1) (take end src)) p x v h l z k)
 
-        pub at_zero : (eqb (get_or src p 0) 0 && ltb start p) ≡ true → read_at_lem n p x v ≡ Unread (Loose start)
+        pub at_zero : (eqb (get_or src p 0) 0 && ltb start p) ≡ true → read_at_lem n p x v ≡ Err (Loose start)
         unfolding read_at_lem
         at_zero z = rw (next_byte p inside) (on_zero w start n (get_or src p 0) (drop (p + 1) (take end src)) p x v h l z)
 
-        pub at_high : 2 ^ w ≤ x + get_or src p 0 * v → read_at_lem n p x v ≡ Unread (Loose start)
+        pub at_high : 2 ^ w ≤ x + get_or src p 0 * v → read_at_lem n p x v ≡ Err (Loose start)
         unfolding read_at_lem
         at_high k = rw (next_byte p inside) (on_high w start n (get_or src p 0) (drop (p + 1) (take end src)) p x v h l k)
 
@@ -134,7 +134,7 @@ module _ (w start : ℕ) (src : List ℕ) (end : ℕ) where
       unfolding read_at_lem
       at_more h s l u = rw (next_byte p inside) (on_more w start (get_or src p 0) (drop (p + 1) (take end src)) p x v l u n h s)
 
-      pub at_out : n ≤ 1 → 128 ≤ get_or src p 0 → read_at_lem n p x v ≡ Unread (Damaged start)
+      pub at_out : n ≤ 1 → 128 ≤ get_or src p 0 → read_at_lem n p x v ≡ Err (Damaged start)
       unfolding read_at_lem
       at_out h l =
           let bs = drop (p + 1) (take end src) in

@@ -1,14 +1,11 @@
 -- The weights of a number's bytes: 1, 128, .. Where n more bytes may come and the next one's weight is v, the last one's
 -- is v * 128 ^ (n - 1). What the bytes so far stand for is below v.
 use Prim.Native.Nat.{ℕ, zero, suc, ◌+◌, ◌-◌, ◌*◌, ◌^◌, ◌≤◌, ◌<◌}
-use mathlib.Core.Path.{◌≡◌, refl, sym, ◌∙◌}
-use mathlib.Core.Bool.{true, false, ◌||◌, true≢false}
-use mathlib.Core.Logic.{◌⊎◌, inl, inr}
+use mathlib.Core.Path.{◌≡◌, sym, ◌∙◌}
 use native.Mathlib.Omega.{arith}
 use native.Mathlib.Nat.{pow-succ', mul_assoc, mul-one, mul-le-mul_left, mul-le-mul_right, not-suc-le-zero, one-le-pow}
 use native.Mathlib.Numerals.{sub-one}
-use lib.Dec.{lit<, ltb, eqb}
-use borrow.Author.Tests.{ltb-true, ltb-false, ne_eqb}
+use lib.Dec.{lit<}
 
 -- v is the next weight, and top the last
 unfoldable pub Weight : ℕ → ℕ → ℕ → Type 0
@@ -43,12 +40,3 @@ module _ (top : ℕ) where
   -- and so below the last
   pub below_top : (x v n b : ℕ) → x < v → 1 < n → Weight top n v → b < 128 → x + b * v < top
   below_top x v n b h l e k = omega (arith, digit x v b h k, weight_128 n v l e)
-
--- Of a tenth byte's seven bits only the lowest has a place below 2 ^ 64, and where it is 0 the byte adds nothing.
-pub loose_tenth : (b : ℕ) → (eqb b 0 || ltb 1 b) ≡ true → (b ≡ 0) ⊎ (1 < b)
-loose_tenth zero e = inl refl
-loose_tenth (suc b) e = inr (ltb-true 1 (suc b) (rw (ne_eqb (suc b) 0 (λ z. omega arith)) at e))
-
-pub tight_tenth : (b : ℕ) → (eqb b 0 || ltb 1 b) ≡ false → b ≡ 1
-tight_tenth zero e = absurd (true≢false e)
-tight_tenth (suc b) e = let l = ltb-false 1 (suc b) (rw (ne_eqb (suc b) 0 (λ z. omega arith)) at e) in omega arith

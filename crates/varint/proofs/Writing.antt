@@ -1,6 +1,7 @@
 -- A number appended is one that is put at its place, with zeros behind it, or with zeros everywhere where it does not fit.
+use Rattle.std.specs.Prelude.{Ok, Err, Some, None}
 use Prim.Native.Nat.{ℕ, ◌+◌, ◌≤◌, ◌<◌}
-use mathlib.Core.Path.{◌≡◌, sym, ap, ◌∙◌}
+use mathlib.Core.Path.{◌≡◌, ap, ◌∙◌}
 use mathlib.Core.List.{List, ◌++◌}
 use mathlib.Core.Logic.{⊎_elim}
 use native.Mathlib.Omega.{arith}
@@ -10,14 +11,11 @@ use borrow.Author.Tests.{le-leb, lt-leb}
 use Rattle.answers.specs.declared.Refusal.TheVariants.{NoRoom}
 use Rattle.room.specs.Room.{write, pad}
 use Rattle.room.specs.Inner.Pour.{put_of}
-use Rattle.room.specs.declared.Put.TheVariants.{Past, Short}
 use Rattle.room.proofs.Cases.{lt_or, both}
-use Rattle.room.proofs.Fill.{pad_none}
 use Rattle.room.proofs.Pour.{put_past, put_not}
 use Rattle.room.proofs.Write.{write_eq, write_length}
 use Rattle.varint.specs.Leb128.{encode}
 use Rattle.varint.specs.Uvarint.{append_uvarint}
-use Rattle.varint.specs.declared.AppendUvarint.TheVariants.{Appended, Unappended}
 
 -- the used part after a run written where it fits
 take_write : (o : List ℕ) (at : ℕ) (vs : List ℕ) → at + length vs ≤ length o
@@ -29,30 +27,28 @@ take_write o at vs h =
 
 module _ (out : List ℕ) (at x : ℕ) where
   pub append_fits : at + length (encode x) ≤ length out
-      → append_uvarint out at x ≡ (Appended (at + length (encode x)), pad (length out) (take at out ++ encode x))
+      → append_uvarint out at x ≡ (Ok (at + length (encode x)), pad (length out) (take at out ++ encode x))
   unfolding append_uvarint
   append_fits h = rw (le-leb (at + length (encode x)) (length out) h)
 
   pub append_short : length out < at + length (encode x)
-      → append_uvarint out at x ≡ (Unappended NoRoom, replicate (length out) 0)
+      → append_uvarint out at x ≡ (Err NoRoom, replicate (length out) 0)
   unfolding append_uvarint
   append_short h = rw (lt-leb (at + length (encode x)) (length out) h)
 
   -- by how the bytes were put
-  pub append_past : (next : ℕ) (o : List ℕ) → put_of (encode x) at out ≡ (Past next, o)
-      → append_uvarint out at x ≡ (Appended next, pad (length o) (take next o))
+  pub append_past : (next : ℕ) (o : List ℕ) → put_of (encode x) at out ≡ (Some next, o)
+      → append_uvarint out at x ≡ (Ok next, pad (length o) (take next o))
   append_past next o e =
       let p = put_past (encode x) at next out o e in
       append_fits p.0 ∙ rw (p.1, p.2, write_length, take_write out at (encode x) p.0)
 
-  pub append_not : (o : List ℕ) → put_of (encode x) at out ≡ (Short, o)
-      → append_uvarint out at x ≡ (Unappended NoRoom, pad (length o) (take 0 o))
-  append_not o e =
-      let p = put_not (encode x) at out o e in
-      append_short p.0 ∙ rw p.1 (ap (λ (l : List ℕ). (Unappended NoRoom, l)) (sym (pad_none (length out))))
+  pub append_not : (o : List ℕ) → put_of (encode x) at out ≡ (None, o)
+      → append_uvarint out at x ≡ (Err NoRoom, replicate (length o) 0)
+  append_not o e = let p = put_not (encode x) at out o e in append_short p.0 ∙ rw p.1
 
   -- what a success tells
-  pub appended : (next : ℕ) (o : List ℕ) → append_uvarint out at x ≡ (Appended next, o)
+  pub appended : (next : ℕ) (o : List ℕ) → append_uvarint out at x ≡ (Ok next, o)
       → (at + length (encode x) ≤ length out)
       × (next ≡ at + length (encode x))
       × (o ≡ pad (length out) (take at out ++ encode x))

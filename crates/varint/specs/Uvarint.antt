@@ -1,12 +1,17 @@
 -- 01's reader and writer of one number: what they answer, and what the writer leaves in the room.
-use Rattle.std.specs.Prelude.{ℕ, ◌+◌, ◌/◌, ◌^◌, min, List, ◌++◌, Bool, cond, ◌&&◌, length, take, drop, replicate, leb, ltb, eqb}
+use Rattle.std.specs.Prelude.{Result, Ok, Err, ℕ, ◌+◌, ◌/◌, ◌^◌, min, List, ◌++◌, Bool, cond, ◌&&◌, length, take, drop, replicate, leb, ltb, eqb}
+use Rattle.answers.specs.declared.Refusal.{Refusal}
 use Rattle.answers.specs.declared.Refusal.TheVariants.{NoRoom, Damaged, Loose}
 use Rattle.room.specs.Room.{pad}
 use Rattle.varint.specs.Leb128.{decode, size, encode}
-use Rattle.varint.specs.declared.ReadUvarint.{ReadUvarint}
-use Rattle.varint.specs.declared.ReadUvarint.TheVariants.{Value, Unread}
-use Rattle.varint.specs.declared.AppendUvarint.{AppendUvarint}
-use Rattle.varint.specs.declared.AppendUvarint.TheVariants.{Appended, Unappended}
+
+-- the number that was read and the place past it, or why there is none
+abbrev pub ReadUvarint : Type 0
+ReadUvarint = Result (ℕ × ℕ) Refusal
+
+-- the place past the number that was written, or why it was not
+abbrev pub AppendUvarint : Type 0
+AppendUvarint = Result ℕ Refusal
 
 -- the most bytes that a reader of w bits takes, seven bits a byte. 01: "The reader takes at most ten bytes", its w being 64
 abbrev pub most : ℕ → ℕ
@@ -24,13 +29,13 @@ unfoldable pub read_uvarint : ℕ → List ℕ → ℕ → ReadUvarint
 read_uvarint w part at =
     let field = drop at part in
     cond (leb (size field) (min (most w) (length field)))
-    (cond (tight w field) (Value (decode field) (at + size field)) (Unread (Loose at)))
-    (Unread (Damaged at))
+    (cond (tight w field) (Ok (decode field, at + size field)) (Err (Loose at)))
+    (Err (Damaged at))
 
 -- A number's bytes put at a place: those before it stay, and "output past the used part is zero". Where they go past
 -- the end the room is too small, refusal 8, and 8 fills "all output and work room with zeros".
 unfoldable pub append_uvarint : List ℕ → ℕ → ℕ → AppendUvarint × List ℕ
 append_uvarint out at x =
     cond (leb (at + length (encode x)) (length out))
-    (Appended (at + length (encode x)), pad (length out) (take at out ++ encode x))
-    (Unappended NoRoom, replicate (length out) 0)
+    (Ok (at + length (encode x)), pad (length out) (take at out ++ encode x))
+    (Err NoRoom, replicate (length out) 0)

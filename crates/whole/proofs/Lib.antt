@@ -1,11 +1,9 @@
+pub mod Rounded
 pub mod Integers
 pub mod Held
 pub mod Floors
 pub mod Rounds
 pub mod Width
 pub mod Within
-pub mod Double
-pub mod Ceilings
-pub mod Joined
 pub mod Samples
 pub mod Unique

@@ -1,4 +1,3 @@
 pub mod Held
 pub mod Floor
 pub mod Round
-pub mod Inner

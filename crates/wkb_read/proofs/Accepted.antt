@@ -1,6 +1,7 @@
 -- What is read is an outline that passes 01's rules. Beside rule 12, which is the reader's own, the rules that it asks of a shape are word for word those
 -- that every other call asks of an outline (`judged_checked`); so whatever the bytes are, what a success leaves in the rooms passes them (`read_accepted`).
 -- Assumes nothing.
+use Rattle.std.specs.Prelude.{Ok, Err}
 use Prim.Native.Nat.{ℕ, zero, suc, ◌+◌, ◌*◌, ◌<◌}
 use mathlib.Core.Path.{◌≡◌, refl, sym, ap, ap₂, subst, ◌∙◌}
 use mathlib.Core.List.{List, [], ◌∷◌, ◌++◌}
@@ -14,12 +15,11 @@ use lib.IntN.{ℤ, pos}
 use lib.Ieee.{Float}
 use Rattle.answers.specs.declared.Refusal.{Refusal}
 use Rattle.answers.specs.declared.Refusal.TheVariants.{TooFew, TooMany, SizesDiffer, NotClosed, NoRoom, BadScale}
-use Rattle.rings.specs.declared.Checked.{Checked}
-use Rattle.rings.specs.declared.Checked.TheVariants.{Sound, Faulty as Broken}
+use Rattle.rings.specs.Checks.{Checked}
 use Rattle.rings.specs.I32s.{I32s}
 use Rattle.rings.specs.Checks.{closed, holding}
 use Rattle.rings.proofs.Checks.{both}
-use Rattle.room.specs.Room.{pad}
+use Rattle.room.specs.Room.{padded, pad}
 use Rattle.outline_check.specs.Outline.{rings, size_at, start_of, ring_of}
 use Rattle.outline_check.specs.Rules.{enough as enoughAt, not_over as notOverAt, shut as shutAt, add_up, sound_scale, for_each, shape_checked, shape_with}
 use Rattle.outline_check.proofs.Rules.{each_all, each_lowest}
@@ -29,10 +29,8 @@ use Rattle.wkb_fields.specs.declared.ByteOrder.{ByteOrder}
 use Rattle.wkb_shape.specs.declared.WkbRefusal.{WkbRefusal}
 use Rattle.wkb_shape.specs.declared.WkbRefusal.TheVariants.{Plain}
 use Rattle.wkb_shape.specs.Wkb.{Ring, Shape, Got, got, stop, whole}
-use Rattle.wkb_read.specs.declared.Judged.{Judged}
-use Rattle.wkb_read.specs.declared.Judged.TheVariants.{Fine, Faulty}
-use Rattle.wkb_read.specs.declared.ReadWkb.{ReadWkb}
-use Rattle.wkb_read.specs.declared.ReadWkb.TheVariants.{Read, Unread}
+use Rattle.wkb_read.specs.Judged.{Judged}
+use Rattle.wkb_read.specs.Read.{ReadWkb}
 use Rattle.wkb_read.specs.Stored.{storable, all_storable, ring_coords, coords_of, sizes_of}
 use Rattle.wkb_read.specs.Judged.{fault_at, each_ring, enough, not_over, shut, judged}
 use Rattle.wkb_read.specs.Read.{Outcome, stored, after_judged, after_whole, wkb_read}
@@ -44,8 +42,8 @@ use Rattle.wkb_read.proofs.Rules.{passed}
 
 -- a check of 01, as the reader tells it
 unfoldable pub told : Checked → Judged
-told Sound = Fine
-told (Broken why) = Faulty (Plain why)
+told (Ok _) = Ok tt
+told (Err why) = Err (Plain why)
 
 -- every coordinate of the shape is finite once scaled, and in i32 once rounded: no ring breaks rule 12
 abbrev pub Storable : Float → Shape → Type 0
@@ -56,7 +54,7 @@ pub record Accepted (scale : Float) (ringCount numberCount : ℕ) (sizes : List 
   pub counted : length (take ringCount sizes) ≡ ringCount
   pub numbered : length (take numberCount coords) ≡ numberCount
   pub numbers : I32s (take numberCount coords)
-  pub checked : shape_checked (take ringCount sizes) (take numberCount coords) ≡ Sound
+  pub checked : shape_checked (take ringCount sizes) (take numberCount coords) ≡ Ok tt
   pub scaled : sound_scale scale ≡ true
 
 -- The lowest ring at fault
@@ -141,7 +139,7 @@ coords_i32s scale (r ∷ rs) kept = ring_i32s scale r (coords_of scale rs) (kept
 -- The reader's rules beside 01's
 
 told_holding : (t t' : Bool) (why : Refusal) (later : Judged) (later' : Checked) → t ≡ t' → later ≡ told later'
-    → cond t later (Faulty (Plain why)) ≡ told (holding t' why later')
+    → cond t later (Err (Plain why)) ≡ told (holding t' why later')
 unfolding told
 told_holding t true why later later' e l = rw (e, l)
 told_holding t false why later later' e l = rw e
@@ -152,7 +150,7 @@ unfolding each_ring told
 told_each ok ok' why shape n later later' e same l = by_test (ltb (fault_at ok shape) (length shape)) refl
   where
     by_test : (b : Bool) → ltb (fault_at ok shape) (length shape) ≡ b
-        → cond b (Faulty (Plain (why (fault_at ok shape)))) later ≡ told (for_each ok' why n later')
+        → cond b (Err (Plain (why (fault_at ok shape)))) later ≡ told (for_each ok' why n later')
     by_test true t =
         let h = ltb-true (fault_at ok shape) (length shape) t in
         ap told (sym (each_lowest ok' why n later' (fault_at ok shape) (omega arith) (same _ (omega arith) ∙ fault_there ok shape h)
@@ -167,7 +165,7 @@ each_passes : (ok : Ring → Bool) (why : ℕ → WkbRefusal) (shape : Shape) (l
 unfolding each_ring
 each_passes ok why shape later h = by_test (ltb (fault_at ok shape) (length shape)) refl
   where
-    by_test : (b : Bool) → ltb (fault_at ok shape) (length shape) ≡ b → cond b (Faulty (why (fault_at ok shape))) later ≡ later
+    by_test : (b : Bool) → ltb (fault_at ok shape) (length shape) ≡ b → cond b (Err (why (fault_at ok shape))) later ≡ later
     by_test true t = let l = ltb-true (fault_at ok shape) (length shape) t in absurd (omega (arith, fault_none ok shape h))
     by_test false t = refl
 
@@ -189,60 +187,56 @@ judged_checked scale shape kept =
     (λ k h. ap₂ closed (ring_at_lem scale shape k (omega arith)) (size_at_lem shape k)) refl)))))
 
 -- and a shape with nothing at fault can be stored
-fine_storable : (scale : Float) (shape : Shape) → judged scale shape ≡ Fine → Storable scale shape
+fine_storable : (scale : Float) (shape : Shape) → judged scale shape ≡ Ok tt → Storable scale shape
 fine_storable scale shape j k h = fault_below (all_storable scale) shape k (omega (arith, (passed scale shape j).kept))
 
-told_fine : (c : Checked) → told c ≡ Fine → c ≡ Sound
+told_fine : (c : Checked) → told c ≡ Ok tt → c ≡ Ok tt
 unfolding told
-told_fine Sound e = refl
-told_fine (Broken why) e = cc
+told_fine (Ok _) e = refl
+told_fine (Err why) e = cc
 
 -- What a success leaves
 
 abbrev rings_read : ReadWkb → ℕ
-rings_read (Read r m) = r
-rings_read (Unread why) = 0
+rings_read (Ok (r, m)) = r
+rings_read (Err why) = 0
 
 abbrev numbers_read : ReadWkb → ℕ
-numbers_read (Read r m) = m
-numbers_read (Unread why) = 0
+numbers_read (Ok (r, m)) = m
+numbers_read (Err why) = 0
 
 abbrev times_read : ReadWkb → ℕ
-times_read (Read r m) = 1
-times_read (Unread why) = 0
+times_read (Ok (r, m)) = 1
+times_read (Err why) = 0
 
-front : (n : ℕ) (xs : List ℕ) → take (length xs) (pad n xs) ≡ xs
-unfolding pad
-front n xs = take_at xs _ (length xs) refl
-
-front_z : (n : ℕ) (xs : List ℤ) → take (length xs) (pad_z n xs) ≡ xs
-unfolding pad_z
-front_z n xs = take_at xs _ (length xs) refl
+front : {A : Type 0} (z : A) (n : ℕ) (xs : List A) → take (length xs) (padded z n xs) ≡ xs
+unfolding padded
+front z n xs = take_at xs _ (length xs) refl
 
 module _ (sizes : List ℕ) (coords : List ℤ) (scale : Float) (r m : ℕ) (s : List ℕ) (c : List ℤ) where
   -- a refusal is no success
-  refused_not : (why : WkbRefusal) (a : List ℕ) (b : List ℤ) → ◌≡◌ {A = Outcome} (Unread why, a, b) (Read r m, s, c) → Accepted scale r m s c
+  refused_not : (why : WkbRefusal) (a : List ℕ) (b : List ℤ) → ◌≡◌ {A = Outcome} (Err why, a, b) (Ok (r, m), s, c) → Accepted scale r m s c
   refused_not why a b e = let no : ◌≡◌ {A = ℕ} 0 1 = ap (λ (o : Outcome). times_read o.0) e in absurd (omega arith)
 
-  stored_accepted : (shape : Shape) → sound_scale scale ≡ true → judged scale shape ≡ Fine → stored sizes coords scale shape ≡ (Read r m, s, c) → Accepted scale r m s c
+  stored_accepted : (shape : Shape) → sound_scale scale ≡ true → judged scale shape ≡ Ok tt → stored sizes coords scale shape ≡ (Ok (r, m), s, c) → Accepted scale r m s c
   unfolding stored
   stored_accepted shape sound j e = by_test (leb (length (sizes_of shape)) (length sizes) && leb (length (coords_of scale shape)) (length coords)) e
     where
-      good : shape_checked (sizes_of shape) (coords_of scale shape) ≡ Sound
+      good : shape_checked (sizes_of shape) (coords_of scale shape) ≡ Ok tt
       good = told_fine _ (sym (judged_checked scale shape (fine_storable scale shape j)) ∙ j)
 
       by_test : (b : Bool)
           → ◌≡◌ {A = Outcome}
           (cond b
-          (Read (length (sizes_of shape)) (length (coords_of scale shape)), pad (length sizes) (sizes_of shape), pad_z (length coords) (coords_of scale shape))
-          (Unread (Plain NoRoom), replicate (length sizes) 0, replicate (length coords) (pos 0)))
-          (Read r m, s, c)
+          (Ok (length (sizes_of shape), length (coords_of scale shape)), pad (length sizes) (sizes_of shape), pad_z (length coords) (coords_of scale shape))
+          (Err (Plain NoRoom), replicate (length sizes) 0, replicate (length coords) (pos 0)))
+          (Ok (r, m), s, c)
           → Accepted scale r m s c
       by_test true e =
           let er : length (sizes_of shape) ≡ r = ap (λ (o : Outcome). rings_read o.0) e in
           let em : length (coords_of scale shape) ≡ m = ap (λ (o : Outcome). numbers_read o.0) e in
-          let fs : take r s ≡ sizes_of shape = ap₂ take (sym er) (sym (ap (λ (o : Outcome). o.1) e)) ∙ front (length sizes) (sizes_of shape) in
-          let fc : take m c ≡ coords_of scale shape = ap₂ take (sym em) (sym (ap (λ (o : Outcome). o.2) e)) ∙ front_z (length coords) (coords_of scale shape) in
+          let fs : take r s ≡ sizes_of shape = ap₂ take (sym er) (sym (ap (λ (o : Outcome). o.1) e)) ∙ front 0 (length sizes) (sizes_of shape) in
+          let fc : take m c ≡ coords_of scale shape = ap₂ take (sym em) (sym (ap (λ (o : Outcome). o.2) e)) ∙ front (pos 0) (length coords) (coords_of scale shape) in
           record {
             counted = ap length fs ∙ er;
             numbered = ap length fc ∙ em;
@@ -252,12 +246,12 @@ module _ (sizes : List ℕ) (coords : List ℤ) (scale : Float) (r m : ℕ) (s :
           }
       by_test false e = refused_not _ _ _ e
 
-  judged_accepted : (shape : Shape) (j : Judged) → sound_scale scale ≡ true → judged scale shape ≡ j → after_judged sizes coords scale shape j ≡ (Read r m, s, c) → Accepted scale r m s c
+  judged_accepted : (shape : Shape) (j : Judged) → sound_scale scale ≡ true → judged scale shape ≡ j → after_judged sizes coords scale shape j ≡ (Ok (r, m), s, c) → Accepted scale r m s c
   unfolding after_judged
-  judged_accepted shape Fine sound j e = stored_accepted shape sound j e
-  judged_accepted shape (Faulty why) sound j e = refused_not why sizes coords e
+  judged_accepted shape (Ok _) sound j e = stored_accepted shape sound j e
+  judged_accepted shape (Err why) sound j e = refused_not why sizes coords e
 
-  whole_accepted : (g : Got (ByteOrder × Shape)) → sound_scale scale ≡ true → after_whole sizes coords scale g ≡ (Read r m, s, c) → Accepted scale r m s c
+  whole_accepted : (g : Got (ByteOrder × Shape)) → sound_scale scale ≡ true → after_whole sizes coords scale g ≡ (Ok (r, m), s, c) → Accepted scale r m s c
   unfolding after_whole
   whole_accepted (got (order, shape) end) sound e = judged_accepted shape (judged scale shape) sound refl e
   whole_accepted (stop why) sound e = refused_not why sizes coords e
@@ -265,11 +259,11 @@ module _ (sizes : List ℕ) (coords : List ℤ) (scale : Float) (r m : ℕ) (s :
   -- For any bytes, any scale and any rooms: where reading answers r rings and m numbers, the first r sizes and the first m numbers that it leaves are an
   -- outline of i32 that passes 01's rules 1 to 4, and the scale passes rule 5. So what 01 demands of an outline that passes holds of the one that was read:
   -- demand 2 is what `inside` of `outline_ask` promises (`inside_of`), demand 3 is `inside` and `one_answer` of the record `Demand3` of `demand_3`.
-  pub read_accepted : (bytes : List ℕ) → wkb_read sizes coords scale bytes ≡ (Read r m, s, c) → Accepted scale r m s c
+  pub read_accepted : (bytes : List ℕ) → wkb_read sizes coords scale bytes ≡ (Ok (r, m), s, c) → Accepted scale r m s c
   unfolding wkb_read
   read_accepted bytes e = by_test (sound_scale scale) refl e
     where
-      by_test : (b : Bool) → sound_scale scale ≡ b → cond b (after_whole sizes coords scale (whole bytes)) (Unread (Plain BadScale), sizes, coords) ≡ (Read r m, s, c)
+      by_test : (b : Bool) → sound_scale scale ≡ b → cond b (after_whole sizes coords scale (whole bytes)) (Err (Plain BadScale), sizes, coords) ≡ (Ok (r, m), s, c)
           → Accepted scale r m s c
       by_test true sound e = whole_accepted (whole bytes) sound e
       by_test false sound e = refused_not (Plain BadScale) sizes coords e

@@ -1,4 +1,5 @@
 -- Points and rings stored one after the other. Each loop's invariant says that what is left to write comes to what all of it comes to. Assumes nothing.
+use Rattle.std.specs.Prelude.{Ok}
 use Prim.Native.Nat.{ℕ, zero, suc, ◌+◌, ◌*◌, ◌-◌, ◌≤◌, ◌<◌}
 use mathlib.Core.Path.{◌≡◌, refl, sym, ap, ap₂, ◌∙◌}
 use mathlib.Core.List.{List, [], ◌∷◌}
@@ -9,11 +10,11 @@ use lib.ListN.{length, set, length-append, length-set}
 use lib.IntN.{ℤ}
 use lib.Ieee.{Float}
 use Rattle.rings.proofs.Checks.{both}
+use Rattle.std.specs.List.{list_all, range_with_len}
 use Rattle.room.specs.Room.{write}
 use Rattle.room.proofs.Write.{write_length, write_append}
 use Rattle.wkb_fields.specs.declared.ByteOrder.{ByteOrder}
 use Rattle.wkb_fields.specs.Fields.{field_of}
-use Rattle.wkb_shape.specs.declared.Walked.TheVariants.{Past}
 use Rattle.wkb_shape.specs.Wkb.{Ring, Shape, rings}
 use Rattle.wkb_shape.specs.Inner.Laid.{end_of, points_of, count_of, next_of, rings_of, Whole}
 use Rattle.wkb_shape.proofs.Laid.{begun, points_length, rings_length}
@@ -35,40 +36,14 @@ module _ (bytes : List ℕ) (order : ByteOrder) (scale : Float) where
   unfolding points_of
   points_none n at i h = let e : n - i ≡ 0 = omega arith in rw e
 
-  -- rule 12 over the points of a ring
-  pub record Storing (n start at i : ℕ) : Type 0 where
-    pub within : i ≤ n
-    pub inside : at + 16 * (n - i) ≤ length bytes
-    pub same : all_storable scale (points_of bytes order (n - i) at) ≡ all_storable scale (points_of bytes order n start)
+  -- rule 12 over the points of a ring, asked point by point
+  abbrev pub point_ok : ℕ → ℕ → Bool
+  point_ok start i = storable scale (field_of order 8 bytes (start + 16 * i)) && storable scale (field_of order 8 bytes (start + 16 * i + 8))
 
-  pub storing : (n start : ℕ) → start + 16 * n ≤ length bytes → Storing n start start 0
-  storing n start h = record { within = omega arith; inside = omega arith; same = rw sub-zero }
-
-  module _ (n start at i : ℕ) (s : Storing n start at i) (h : i < n) where
-    pub two_there : at + 16 ≤ length bytes
-    two_there = omega (arith, s.inside)
-
-    storing_split : (storable scale (field_of order 8 bytes at) && storable scale (field_of order 8 bytes (at + 8)))
-        && all_storable scale (points_of bytes order (n - (i + 1)) (at + 16))
-        ≡ all_storable scale (points_of bytes order n start)
-    unfolding all_storable
-    storing_split = sym (ap (all_storable scale) (points_here n at i h)) ∙ s.same
-
-    pub storing_on : storable scale (field_of order 8 bytes at) && storable scale (field_of order 8 bytes (at + 8)) ≡ true → Storing n start (at + 16) (i + 1)
-    storing_on t =
-        record {
-          within = omega arith;
-          inside = omega (arith, s.inside);
-          same = sym (ap (λ (b : Bool). b && all_storable scale (points_of bytes order (n - (i + 1)) (at + 16))) t) ∙ storing_split;
-        }
-
-    pub storing_not : storable scale (field_of order 8 bytes at) && storable scale (field_of order 8 bytes (at + 8)) ≡ false
-        → false ≡ all_storable scale (points_of bytes order n start)
-    storing_not t = sym (ap (λ (b : Bool). b && all_storable scale (points_of bytes order (n - (i + 1)) (at + 16))) t) ∙ storing_split
-
-  pub storing_done : (n start at i : ℕ) → Storing n start at i → n ≤ i → true ≡ all_storable scale (points_of bytes order n start)
-  unfolding all_storable
-  storing_done n start at i s h = sym (ap (all_storable scale) (points_none n at i h)) ∙ s.same
+  pub points_ok : (start n k at : ℕ) → at ≡ start + 16 * k → list_all (point_ok start) (range_with_len k n) ≡ all_storable scale (points_of bytes order n at)
+  unfolding all_storable points_of
+  points_ok start zero k at e = refl
+  points_ok start (suc n) k at e = rw (← e, points_ok start n (k + 1) (at + 16) (omega arith))
 
   -- a ring's numbers
   pub record Putting (n start to : ℕ) (coords₀ : List ℤ) (at c i : ℕ) (coords : List ℤ) : Type 0 where
@@ -127,7 +102,7 @@ module _ (bytes : List ℕ) (order : ByteOrder) (scale : Float) where
   next_is at = refl
 
   -- how many numbers there are
-  pub numbers_of : (n at q : ℕ) → end_of (rings bytes order n at) ≡ Past q → q ≡ at + 4 * n + 8 * length (coords_of scale (rings_of bytes order n at))
+  pub numbers_of : (n at q : ℕ) → end_of (rings bytes order n at) ≡ Ok q → q ≡ at + 4 * n + 8 * length (coords_of scale (rings_of bytes order n at))
   unfolding rings rings_of coords_of end_of
   numbers_of zero at q e = let s : at ≡ q = cc in omega arith
   numbers_of (suc n) at q e =

@@ -1,18 +1,17 @@
 -- S, the square of 01's sample sheet, as GEOS writes it in either byte order (oracle/geos/polygons.txt): the bytes stand here one by one, so that which
 -- order comes first does not rest on a definition of ours.
+use Rattle.std.specs.Prelude.{Ok}
 use Prim.Native.Nat.{ℕ}
 use mathlib.Core.Path.{◌≡◌, refl}
 use mathlib.Core.List.{List, [], ◌∷◌}
 use lib.IntN.{ℤ, pos}
 use lib.Ieee.{Float, binary64, of_bits, mul, lt}
 use Rattle.whole.specs.Round.{round_to}
-use Rattle.room.specs.Room.{pad}
-use Rattle.outline_record.specs.Made.{pad_z}
+use Rattle.room.specs.Room.{padded}
 use Rattle.wkb_fields.specs.declared.ByteOrder.TheVariants.{Big, Little}
 use Rattle.wkb_fields.specs.Fields.{little_end, number_in, field_of, little_bytes, bytes_in}
 use Rattle.wkb_shape.specs.Wkb.{Shape, got, then, field, point, points, ring, rings, order_at, type_at, count_at, header, polygon, whole}
 use Rattle.wkb_shape.specs.Written.{order_byte, point_bytes, points_bytes, ring_bytes, rings_bytes, written}
-use Rattle.wkb_read.specs.declared.ReadWkb.TheVariants.{Read}
 use Rattle.wkb_read.specs.Stored.{all_storable, ring_coords, coords_of, sizes_of}
 use Rattle.wkb_read.specs.Judged.{fault_at, each_ring, judged}
 use Rattle.wkb_read.specs.Read.{Outcome, stored, after_judged, after_whole, wkb_read}
@@ -76,12 +75,12 @@ one = of_bits binary64 0x3FF0000000000000
 
 read_square : Outcome
 read_square =
-    (Read 1 10, 5 ∷ 0 ∷ [], pos 0 ∷ pos 0 ∷ pos 10 ∷ pos 0 ∷ pos 10 ∷ pos 10 ∷ pos 0 ∷ pos 10 ∷ pos 0 ∷ pos 0 ∷ pos 0 ∷ pos 0 ∷ [])
+    (Ok (1, 10), 5 ∷ 0 ∷ [], pos 0 ∷ pos 0 ∷ pos 10 ∷ pos 0 ∷ pos 10 ∷ pos 10 ∷ pos 0 ∷ pos 10 ∷ pos 0 ∷ pos 0 ∷ pos 0 ∷ pos 0 ∷ [])
 
 little_read : wkb_read sevens sevens_z one little_square ≡ read_square
-unfolding wkb_read after_whole after_judged stored judged each_ring fault_at all_storable ring_coords coords_of sizes_of pad pad_z mul round_to lt of_bits read_square sevens sevens_z square
+unfolding wkb_read after_whole after_judged stored judged each_ring fault_at all_storable ring_coords coords_of sizes_of padded mul round_to lt of_bits read_square sevens sevens_z square
 little_read = rw little_whole refl
 
 big_read : wkb_read sevens sevens_z one big_square ≡ read_square
-unfolding wkb_read after_whole after_judged stored judged each_ring fault_at all_storable ring_coords coords_of sizes_of pad pad_z mul round_to lt of_bits read_square sevens sevens_z square
+unfolding wkb_read after_whole after_judged stored judged each_ring fault_at all_storable ring_coords coords_of sizes_of padded mul round_to lt of_bits read_square sevens sevens_z square
 big_read = rw big_whole refl

@@ -1,35 +1,41 @@
 -- Passes over the rings of bytes that are whole, and what is stored of them. Assumes nothing.
+use Rattle.std.specs.Prelude.{Ok, Err}
 use Prim.Native.Nat.{ℕ, zero, suc, ◌+◌, ◌*◌, ◌-◌, ◌≤◌, ◌<◌}
-use mathlib.Core.Path.{◌≡◌, sym, ap, ◌∙◌}
+use mathlib.Core.Path.{◌≡◌, refl, sym, ap, ◌∙◌}
 use mathlib.Core.List.{List, [], ◌∷◌}
-use mathlib.Core.Bool.{Bool, true, false, ◌&&◌}
+use mathlib.Core.Bool.{Bool, true, false, not, cond, ◌&&◌}
+use mathlib.Core.Logic.{⊎_elim}
 use native.Mathlib.Omega.{arith}
 use native.Mathlib.Nat.{sub-zero}
-use borrow.Author.Tests.{le-ltb, lt-ltb, leb-true}
+use borrow.Author.Tests.{le-leb, lt-leb, le-ltb, lt-ltb, leb-true}
 use lib.ListN.{length, get_or}
+use lib.Dec.{leb, ltb}
 use lib.IntN.{ℤ, pos, negsuc}
 use lib.Signed.{le_z, mag}
 use lib.Ieee.Scale.{finite}
 use mir.Syntax.{w32}
 use mir.Val.{SFits}
 use Rattle.whole.specs.Held.{first, last}
+use Rattle.room.proofs.Cases.{lt_or}
 use Rattle.rings.proofs.Checks.{both}
 use lib.Ieee.{Float}
 use Rattle.rings.specs.Checks.{eq_z}
 use Rattle.wkb_fields.specs.declared.ByteOrder.{ByteOrder}
 use Rattle.wkb_fields.specs.Fields.{field_of}
-use Rattle.wkb_shape.specs.declared.Walked.TheVariants.{Past}
+use Rattle.answers.specs.declared.Refusal.TheVariants.{TooFew, TooMany, NotClosed}
+use Rattle.wkb_shape.specs.declared.WkbRefusal.{WkbRefusal}
+use Rattle.wkb_shape.specs.declared.WkbRefusal.TheVariants.{Plain, Unstored}
 use Rattle.wkb_shape.specs.Wkb.{Ring, Shape, rings}
 use Rattle.wkb_shape.specs.Inner.Laid.{end_of, points_of, count_of, next_of, rings_of, Whole}
 use Rattle.wkb_shape.proofs.Laid.{Begun, begun, points_length}
-use Rattle.wkb_read.specs.Stored.{scaled_of, stored_of, storable, ring_coords}
-use Rattle.wkb_read.specs.Judged.{fault_at, enough, not_over, shut}
+use Rattle.wkb_read.specs.Stored.{scaled_of, stored_of, storable, all_storable, ring_coords}
+use Rattle.wkb_read.specs.Judged.{Judged, fault_at, each_ring, enough, not_over, shut, judged}
 
 module _ (bytes : List ℕ) (order : ByteOrder) where
   -- ring k starts at a place, and those from it on go to the end of the bytes
   pub record Along (n at k : ℕ) : Type 0 where
     pub within : k ≤ n
-    pub ends : end_of (rings bytes order (n - k) at) ≡ Past (length bytes)
+    pub ends : end_of (rings bytes order (n - k) at) ≡ Ok (length bytes)
 
   pub along : (n : ℕ) → Whole bytes order n → Along n 9 0
   along n w = record { within = omega arith; ends = rw sub-zero w }
@@ -95,19 +101,85 @@ module _ (bytes : List ℕ) (order : ByteOrder) where
         let e = sym (ap (λ (rs : Shape). k + fault_at ok rs) (rings_none n at k h)) ∙ i.same in
         let w = i.on.within in omega (arith, e)
 
--- the rules on a ring's count, of the points that stand at a place
-module _ (bytes : List ℕ) (order : ByteOrder) (n at : ℕ) where
-  pub few_ok : 2 ≤ n → enough (points_of bytes order n at) ≡ true
-  few_ok h = rw (points_length bytes order n at, le-ltb n 2 h)
+-- the rules on a ring's count, as tests of the count
+pub leb_not : (m n : ℕ) → leb m n ≡ not (ltb n m)
+leb_not m n =
+    ⊎_elim (λ (h : n < m). lt-leb m n h ∙ ap not (sym (lt-ltb n m h))) (λ (h : m ≤ n). le-leb m n h ∙ ap not (sym (le-ltb n m h))) (lt_or n m)
 
-  pub few_not : n < 2 → enough (points_of bytes order n at) ≡ false
-  few_not h = rw (points_length bytes order n at, lt-ltb n 2 h)
+module _ (bytes : List ℕ) (order : ByteOrder) (at n : ℕ) (r : Bool) where
+  pub enough_told : r ≡ leb 2 n → r ≡ enough (points_of bytes order n at)
+  enough_told e = rw (points_length bytes order n at) (e ∙ leb_not 2 n)
 
-  pub many_ok : n ≤ 4097 → not_over (points_of bytes order n at) ≡ true
-  many_ok h = rw (points_length bytes order n at, le-ltb 4097 n h)
+  pub not_over_told : r ≡ leb n 4097 → r ≡ not_over (points_of bytes order n at)
+  not_over_told e = rw (points_length bytes order n at) (e ∙ leb_not n 4097)
 
-  pub many_not : 4097 < n → not_over (points_of bytes order n at) ≡ false
-  many_not h = rw (points_length bytes order n at, lt-ltb 4097 n h)
+-- what a rule over all rings comes to
+module _ (ok : Ring → Bool) (told : ℕ → WkbRefusal) (shape : Shape) where
+  pub each_fault : (k : ℕ) (later : Judged) → k ≡ fault_at ok shape → k < length shape → each_ring ok told shape later ≡ Err (told k)
+  unfolding each_ring
+  each_fault k later e h = rw (← e, lt-ltb k (length shape) h)
+
+  pub each_none : (later : Judged) → length shape ≡ fault_at ok shape → each_ring ok told shape later ≡ later
+  unfolding each_ring
+  each_none later e = rw (← e, le-ltb (length shape) (length shape) (omega arith))
+
+  -- and with other rules behind it
+  by_test : (b : Bool) (w : WkbRefusal) (later : Judged) → ◌≡◌ {A = Judged} (cond b (Err w) (Ok tt)) (Ok tt) → cond b (Err w) later ≡ later
+  by_test true w later e = cc
+  by_test false w later e = refl
+
+  pub each_kept : (later : Judged) → each_ring ok told shape (Ok tt) ≡ Ok tt → each_ring ok told shape later ≡ later
+  unfolding each_ring
+  each_kept later e = by_test (ltb (fault_at ok shape) (length shape)) _ later e
+
+  by_fault : (b : Bool) (w : WkbRefusal) (later : Judged) (why : WkbRefusal) → ◌≡◌ {A = Judged} (cond b (Err w) (Ok tt)) (Err why) → cond b (Err w) later ≡ Err why
+  by_fault true w later why e = e
+  by_fault false w later why e = let z : ◌≡◌ {A = ℕ} 0 1 = cc in absurd (omega arith)
+
+  pub each_broken : (later : Judged) (why : WkbRefusal) → each_ring ok told shape (Ok tt) ≡ Err why → each_ring ok told shape later ≡ Err why
+  unfolding each_ring
+  each_broken later why e = by_fault (ltb (fault_at ok shape) (length shape)) _ later why e
+
+-- the rules one after the other, as far as they have been asked
+module _ (scale : Float) (shape : Shape) where
+  pub judged_none : length shape < 1 → Err (Plain (TooFew 0)) ≡ judged scale shape
+  unfolding judged
+  judged_none h = rw (lt-ltb (length shape) 1 h)
+
+  module _ (some : 1 ≤ length shape) where
+    pub judged_few : (why : WkbRefusal) → Err why ≡ each_ring enough (λ k. Plain (TooFew k)) shape (Ok tt) → Err why ≡ judged scale shape
+    unfolding judged
+    judged_few why e = rw (le-ltb (length shape) 1 some) (sym (each_broken enough _ shape _ why (sym e)))
+
+    module _ (few : Ok tt ≡ each_ring enough (λ k. Plain (TooFew k)) shape (Ok tt)) where
+      pub judged_many_rings : 64 < length shape → Err (Plain (TooMany 64)) ≡ judged scale shape
+      unfolding judged
+      judged_many_rings h = rw (le-ltb (length shape) 1 some) (sym (each_kept enough _ shape _ (sym few) ∙ rw (lt-ltb 64 (length shape) h)))
+
+      module _ (most : length shape ≤ 64) where
+        pub judged_many : (why : WkbRefusal) → Err why ≡ each_ring not_over (λ k. Plain (TooMany k)) shape (Ok tt) → Err why ≡ judged scale shape
+        unfolding judged
+        judged_many why e =
+            rw (le-ltb (length shape) 1 some)
+            (sym (each_kept enough _ shape _ (sym few) ∙ rw (le-ltb 64 (length shape) most) (each_broken not_over _ shape _ why (sym e))))
+
+        module _ (many : Ok tt ≡ each_ring not_over (λ k. Plain (TooMany k)) shape (Ok tt)) where
+          pub judged_unstored : (why : WkbRefusal) → Err why ≡ each_ring (all_storable scale) Unstored shape (Ok tt) → Err why ≡ judged scale shape
+          unfolding judged
+          judged_unstored why e =
+              rw (le-ltb (length shape) 1 some)
+              (sym (each_kept enough _ shape _ (sym few)
+              ∙ rw (le-ltb 64 (length shape) most)
+              (each_kept not_over _ shape _ (sym many) ∙ each_broken (all_storable scale) _ shape _ why (sym e))))
+
+          pub judged_last : Ok tt ≡ each_ring (all_storable scale) Unstored shape (Ok tt)
+              → each_ring (shut scale) (λ k. Plain (NotClosed k)) shape (Ok tt) ≡ judged scale shape
+          unfolding judged
+          judged_last e =
+              rw (le-ltb (length shape) 1 some)
+              (sym (each_kept enough _ shape _ (sym few)
+              ∙ rw (le-ltb 64 (length shape) most)
+              (each_kept not_over _ shape _ (sym many) ∙ each_kept (all_storable scale) _ shape _ (sym e))))
 
 -- rule 4 on the points that stand at a place
 module _ (bytes : List ℕ) (order : ByteOrder) (scale : Float) where

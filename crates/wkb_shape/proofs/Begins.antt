@@ -1,4 +1,5 @@
 -- The header of a polygon, and all of its bytes. Assumes nothing.
+use Rattle.std.specs.Prelude.{Ok, Err}
 use Prim.Native.Nat.{ℕ, ◌+◌, ◌≤◌, ◌<◌}
 use mathlib.Core.Path.{◌≡◌, refl, sym, subst, ap, ap₂, ◌∙◌}
 use mathlib.Core.List.{List}
@@ -13,10 +14,6 @@ use Rattle.wkb_fields.specs.declared.ByteOrder.TheVariants.{Big, Little}
 use Rattle.wkb_fields.specs.Fields.{field_of, number_in, little_end}
 use Rattle.wkb_shape.specs.declared.WkbRefusal.{WkbRefusal}
 use Rattle.wkb_shape.specs.declared.WkbRefusal.TheVariants.{Ends, Unknown}
-use Rattle.wkb_shape.specs.declared.Walked.TheVariants.{Past, Stopped}
-use Rattle.wkb_shape.specs.declared.Ordered.TheVariants.{As, Unordered}
-use Rattle.wkb_shape.specs.declared.Header.TheVariants.{Of, Unheaded}
-use Rattle.wkb_shape.specs.declared.Shaped.TheVariants.{Rings, Unshaped}
 use Rattle.wkb_shape.specs.Wkb.{Shape, Got, got, stop, then, field, rings, order_at, type_at, count_at, header, polygon, whole}
 use Rattle.wkb_shape.specs.Inner.Laid.{end_of, order_told, header_told, shape_told, rings_of, Whole}
 use Rattle.wkb_shape.proofs.Reading.{end_got, then_got, then_go, then_stop, then_past, ordered_as, ordered_not, header_of, header_not, field_fits, field_cut, field_got}
@@ -91,10 +88,10 @@ module _ (bytes : List ℕ) where
         kept false true q e = cc
         kept false false q e = let z : ◌≡◌ {A = ℕ} 0 1 = cc in absurd (omega arith)
 
-    pub order_within : (order : ByteOrder) (p : ℕ) → order_told (order_at bytes at) ≡ As order p → p ≤ length bytes
+    pub order_within : (order : ByteOrder) (p : ℕ) → order_told (order_at bytes at) ≡ Ok (order, p) → p ≤ length bytes
     order_within order p e = let g = order_got order p (ordered_as (order_at bytes at) order p e) in omega arith
 
-  pub type_within : (order : ByteOrder) (at p : ℕ) → end_of (type_at bytes order at) ≡ Past p → (p ≤ length bytes) × (p ≡ at + 4)
+  pub type_within : (order : ByteOrder) (at p : ℕ) → end_of (type_at bytes order at) ≡ Ok p → (p ≤ length bytes) × (p ≡ at + 4)
   unfolding end_of
   type_within order at p e = by_read (type_at bytes order at) refl
     where
@@ -104,23 +101,23 @@ module _ (bytes : List ℕ) where
 
   -- the header, told part by part
   module _ (at : ℕ) where
-    pub header_unordered : (why : WkbRefusal) → order_told (order_at bytes at) ≡ Unordered why → Unheaded why ≡ header_told (header bytes at)
+    pub header_unordered : (why : WkbRefusal) → order_told (order_at bytes at) ≡ Err why → Err why ≡ header_told (header bytes at)
     unfolding header then header_told
     header_unordered why e = rw (ordered_not (order_at bytes at) why e)
 
-    pub header_stopped : (order : ByteOrder) (p : ℕ) (why : WkbRefusal) → order_told (order_at bytes at) ≡ As order p
-        → end_of (type_at bytes order p) ≡ Stopped why → Unheaded why ≡ header_told (header bytes at)
+    pub header_stopped : (order : ByteOrder) (p : ℕ) (why : WkbRefusal) → order_told (order_at bytes at) ≡ Ok (order, p)
+        → end_of (type_at bytes order p) ≡ Err why → Err why ≡ header_told (header bytes at)
     unfolding header header_told
     header_stopped order p why e s =
         sym (ap header_told (then_go (order_at bytes at) _ order p (ordered_as (order_at bytes at) order p e) ∙ then_stop (type_at bytes order p) _ why s))
 
-    header_is : (order : ByteOrder) (p q : ℕ) → order_told (order_at bytes at) ≡ As order p → end_of (type_at bytes order p) ≡ Past q
+    header_is : (order : ByteOrder) (p q : ℕ) → order_told (order_at bytes at) ≡ Ok (order, p) → end_of (type_at bytes order p) ≡ Ok q
         → header bytes at ≡ count_at bytes order q
     unfolding header
     header_is order p q e s =
         then_go (order_at bytes at) _ order p (ordered_as (order_at bytes at) order p e) ∙ then_past (type_at bytes order p) (count_at bytes order) q s
 
-    pub header_counted : (order : ByteOrder) (p q : ℕ) → order_told (order_at bytes at) ≡ As order p → end_of (type_at bytes order p) ≡ Past q
+    pub header_counted : (order : ByteOrder) (p q : ℕ) → order_told (order_at bytes at) ≡ Ok (order, p) → end_of (type_at bytes order p) ≡ Ok q
         → header_told (count_at bytes order q) ≡ header_told (header bytes at)
     header_counted order p q e s = ap header_told (sym (header_is order p q e s))
 
@@ -137,38 +134,38 @@ module _ (bytes : List ℕ) where
         let f = c.3 in
         let last : r ≡ c.1 = cc in (omega arith, omega arith)
 
-    pub header_within : (order : ByteOrder) (n r : ℕ) → header_told (header bytes at) ≡ Of order n r → (r ≤ length bytes) × (r ≡ at + 9)
+    pub header_within : (order : ByteOrder) (n r : ℕ) → header_told (header bytes at) ≡ Ok (order, n, r) → (r ≤ length bytes) × (r ≡ at + 9)
     header_within order n r e = header_nine order n r (header_of (header bytes at) order n r e)
 
   -- all bytes, told part by part
-  polygon_is : (order : ByteOrder) (n r : ℕ) → header_told (header bytes 0) ≡ Of order n r
+  polygon_is : (order : ByteOrder) (n r : ℕ) → header_told (header bytes 0) ≡ Ok (order, n, r)
       → polygon bytes 0 ≡ then (rings bytes order n r) (λ shape q. got (order, shape) q)
   unfolding polygon
   polygon_is order n r e = then_go (header bytes 0) _ (order, n) r (header_of (header bytes 0) order n r e)
 
-  whole_is : (order : ByteOrder) (n r end : ℕ) → header_told (header bytes 0) ≡ Of order n r → end_of (rings bytes order n r) ≡ Past end
+  whole_is : (order : ByteOrder) (n r end : ℕ) → header_told (header bytes 0) ≡ Ok (order, n, r) → end_of (rings bytes order n r) ≡ Ok end
       → whole bytes ≡ cond (eqb end (length bytes)) (got (order, rings_of bytes order n r) end) (stop (Ends end))
   unfolding whole
   whole_is order n r end e s =
       then_go (polygon bytes 0) _ _ _ (polygon_is order n r e ∙ then_go (rings bytes order n r) _ _ _ (rings_laid bytes order n r end s))
 
-  pub shape_unheaded : (why : WkbRefusal) → header_told (header bytes 0) ≡ Unheaded why → Unshaped why ≡ shape_told (whole bytes)
+  pub shape_unheaded : (why : WkbRefusal) → header_told (header bytes 0) ≡ Err why → Err why ≡ shape_told (whole bytes)
   unfolding whole polygon then shape_told
   shape_unheaded why e = rw (header_not (header bytes 0) why e)
 
-  pub shape_stopped : (order : ByteOrder) (n r : ℕ) (why : WkbRefusal) → header_told (header bytes 0) ≡ Of order n r
-      → end_of (rings bytes order n r) ≡ Stopped why → Unshaped why ≡ shape_told (whole bytes)
+  pub shape_stopped : (order : ByteOrder) (n r : ℕ) (why : WkbRefusal) → header_told (header bytes 0) ≡ Ok (order, n, r)
+      → end_of (rings bytes order n r) ≡ Err why → Err why ≡ shape_told (whole bytes)
   unfolding whole then shape_told
   shape_stopped order n r why e s = rw (polygon_is order n r e ∙ then_stop (rings bytes order n r) _ why s)
 
-  module _ (order : ByteOrder) (n r end : ℕ) (e : header_told (header bytes 0) ≡ Of order n r) (s : end_of (rings bytes order n r) ≡ Past end) where
-    pub shape_over : (end ≡ length bytes → ⊥) → Unshaped (Ends end) ≡ shape_told (whole bytes)
+  module _ (order : ByteOrder) (n r end : ℕ) (e : header_told (header bytes 0) ≡ Ok (order, n, r)) (s : end_of (rings bytes order n r) ≡ Ok end) where
+    pub shape_over : (end ≡ length bytes → ⊥) → Err (Ends end) ≡ shape_told (whole bytes)
     unfolding shape_told
     shape_over d = rw (whole_is order n r end e s, ne_eqb end (length bytes) d)
 
-    pub shape_whole : end ≡ length bytes → Rings order n ≡ shape_told (whole bytes)
+    pub shape_whole : end ≡ length bytes → Ok (order, n) ≡ shape_told (whole bytes)
     unfolding shape_told
-    shape_whole t = rw (whole_is order n r end e s, eq-eqb end (length bytes) t) (ap (Rings order) (sym (rings_length bytes order n r)))
+    shape_whole t = rw (whole_is order n r end e s, eq-eqb end (length bytes) t) (ap (λ (m : ℕ). Ok (order, m)) (sym (rings_length bytes order n r)))
 
   -- what the pass has told, of the shape that is read
   pub record Laid (order : ByteOrder) (n : ℕ) : Type 0 where
@@ -187,7 +184,7 @@ module _ (bytes : List ℕ) where
       let same : shape ≡ rings_of bytes o m 9 = cc in
       let counts : m ≡ n = sym (rings_length bytes o m 9) ∙ ap length (sym same) ∙ count in
       record {
-        ends = ap (λ (k : ℕ). end_of (rings bytes o k 9)) (sym counts) ∙ there ∙ ap Past all;
+        ends = ap (λ (k : ℕ). end_of (rings bytes o k 9)) (sym counts) ∙ there ∙ ap Ok all;
         read = w ∙ ap₂ (λ (rs : Shape) (q : ℕ). got (o, rs) q) (same ∙ ap (λ (k : ℕ). rings_of bytes o k 9) counts) all;
       }
 
@@ -209,7 +206,7 @@ module _ (bytes : List ℕ) where
       (ap (λ (q : ByteOrder). rings bytes q c.0.1 c.1) (sym order_same) ∙ d.2 ∙ ap₂ got shape_same end_same)
       nine.1 all refl w
 
-  pub shape_laid : (order : ByteOrder) (n : ℕ) → Rings order n ≡ shape_told (whole bytes) → Laid order n
+  pub shape_laid : (order : ByteOrder) (n : ℕ) → Ok (order, n) ≡ shape_told (whole bytes) → Laid order n
   unfolding shape_told
   shape_laid order n e = by_whole (whole bytes) refl
     where
@@ -217,10 +214,11 @@ module _ (bytes : List ℕ) where
       by_whole (stop why) s = let t = e ∙ ap shape_told s in let z : ◌≡◌ {A = ℕ} 0 1 = cc in absurd (omega arith)
       by_whole (got (o, shape) end) s =
           let t = e ∙ ap shape_told s in
-          let so : o ≡ order = cc in
-          let sn : length shape ≡ n = cc in subst (λ (q : ByteOrder). Laid q n) so (subst (Laid o) sn (laid_by o shape end s))
+          let both : ◌≡◌ {A = ByteOrder × ℕ} (o, length shape) (order, n) = cc in
+          let so = ap (λ (y : ByteOrder × ℕ). y.0) both in
+          let sn = ap (λ (y : ByteOrder × ℕ). y.1) both in subst (λ (q : ByteOrder). Laid q n) so (subst (Laid o) sn (laid_by o shape end s))
 
-pub unshaped : (x : Got (ByteOrder × Shape)) (why : WkbRefusal) → Unshaped why ≡ shape_told x → x ≡ stop why
+pub unshaped : (x : Got (ByteOrder × Shape)) (why : WkbRefusal) → Err why ≡ shape_told x → x ≡ stop why
 unfolding shape_told
 unshaped (got (order, shape) end) why e = let z : ◌≡◌ {A = ℕ} 0 1 = cc in absurd (omega arith)
 unshaped (stop other) why e = let s : other ≡ why = cc in ap stop s

@@ -1,4 +1,5 @@
 -- How points and rings lie in the bytes: where reading them ends, and what it gives. Assumes nothing.
+use Rattle.std.specs.Prelude.{Ok, Err}
 use Prim.Native.Nat.{ℕ, zero, suc, ◌+◌, ◌*◌, ◌-◌, ◌/◌, ◌≤◌, ◌<◌}
 use mathlib.Core.Path.{◌≡◌, refl, sym, ap, ◌∙◌}
 use mathlib.Core.List.{List, [], ◌∷◌}
@@ -11,11 +12,10 @@ use Rattle.wkb_fields.specs.declared.ByteOrder.{ByteOrder}
 use Rattle.wkb_fields.specs.Fields.{field_of}
 use Rattle.wkb_shape.specs.declared.WkbRefusal.{WkbRefusal}
 use Rattle.wkb_shape.specs.declared.WkbRefusal.TheVariants.{Ends}
-use Rattle.wkb_shape.specs.declared.Walked.{Walked}
-use Rattle.wkb_shape.specs.declared.Walked.TheVariants.{Past, Stopped}
-use Rattle.wkb_shape.specs.Wkb.{got, stop, then, point, points, ring, rings}
-use Rattle.wkb_shape.specs.Inner.Laid.{end_of, points_of, count_of, next_of, rings_of}
-use Rattle.wkb_shape.proofs.Reading.{then_go, then_stop, end_both, field_fits, field_cut}
+use Rattle.wkb_shape.specs.Inner.Laid.{Walked}
+use Rattle.wkb_shape.specs.Wkb.{got, stop, then, field, point, points, ring, rings}
+use Rattle.wkb_shape.specs.Inner.Laid.{Walked, end_of, value_of, points_of, count_of, next_of, rings_of}
+use Rattle.wkb_shape.proofs.Reading.{then_go, then_stop, end_both, field_fits, field_cut, field_read, field_missed}
 
 module _ (bytes : List ℕ) (order : ByteOrder) where
   point_fits : (at : ℕ) → at + 16 ≤ length bytes → point bytes order at ≡ got (field_of order 8 bytes at, field_of order 8 bytes (at + 8)) (at + 16)
@@ -81,22 +81,22 @@ module _ (bytes : List ℕ) (order : ByteOrder) where
   ring_points at h = rw (field_fits bytes order 4 at h)
 
   -- where reading rings ends
-  pub rings_cut : (n at : ℕ) → length bytes < at + 4 → end_of (rings bytes order (suc n) at) ≡ Stopped (Ends at)
+  pub rings_cut : (n at : ℕ) → length bytes < at + 4 → end_of (rings bytes order (suc n) at) ≡ Err (Ends at)
   unfolding rings then end_of
   rings_cut n at h = rw (ring_cut at h)
 
   pub rings_stop : (n at : ℕ) (why : WkbRefusal) → at + 4 ≤ length bytes
-      → end_of (points bytes order (count_of bytes order at) (at + 4)) ≡ Stopped why → end_of (rings bytes order (suc n) at) ≡ Stopped why
+      → end_of (points bytes order (count_of bytes order at) (at + 4)) ≡ Err why → end_of (rings bytes order (suc n) at) ≡ Err why
   unfolding rings end_of
   rings_stop n at why h e = ap end_of (then_stop (ring bytes order at) _ why (ap end_of (ring_points at h) ∙ e))
 
-  pub rings_on : (n at p : ℕ) → at + 4 ≤ length bytes → end_of (points bytes order (count_of bytes order at) (at + 4)) ≡ Past p
+  pub rings_on : (n at p : ℕ) → at + 4 ≤ length bytes → end_of (points bytes order (count_of bytes order at) (at + 4)) ≡ Ok p
       → end_of (rings bytes order (suc n) at) ≡ end_of (rings bytes order n p)
   unfolding rings
   rings_on n at p h e = end_both (ring bytes order at) (rings bytes order n) (λ r rs. r ∷ rs) p (ap end_of (ring_points at h) ∙ e)
 
   -- a reading of points that is not stopped is within the bytes
-  pub points_within : (n at p : ℕ) → at ≤ length bytes → end_of (points bytes order n at) ≡ Past p → (at + 16 * n ≤ length bytes) × (p ≡ at + 16 * n)
+  pub points_within : (n at p : ℕ) → at ≤ length bytes → end_of (points bytes order n at) ≡ Ok p → (at + 16 * n ≤ length bytes) × (p ≡ at + 16 * n)
   unfolding end_of
   points_within n at p l e =
       ⊎_elim
@@ -111,10 +111,10 @@ module _ (bytes : List ℕ) (order : ByteOrder) where
   pub record Begun (n at q : ℕ) : Type 0 where
     pub counted : at + 4 ≤ length bytes
     pub within : next_of bytes order at ≤ length bytes
-    pub later : end_of (rings bytes order n (next_of bytes order at)) ≡ Past q
+    pub later : end_of (rings bytes order n (next_of bytes order at)) ≡ Ok q
     pub first : ring bytes order at ≡ got (points_of bytes order (count_of bytes order at) (at + 4)) (next_of bytes order at)
 
-  pub begun : (n at q : ℕ) → end_of (rings bytes order (suc n) at) ≡ Past q → Begun n at q
+  pub begun : (n at q : ℕ) → end_of (rings bytes order (suc n) at) ≡ Ok q → Begun n at q
   unfolding next_of
   begun n at q e =
       ⊎_elim
@@ -123,8 +123,8 @@ module _ (bytes : List ℕ) (order : ByteOrder) where
       (lt_or (length bytes) (at + 4))
     where
       by_points : at + 4 ≤ length bytes → (w : Walked) → end_of (points bytes order (count_of bytes order at) (at + 4)) ≡ w → Begun n at q
-      by_points h (Stopped why) s = let t = sym (rings_stop n at why h s) ∙ e in let z : ◌≡◌ {A = ℕ} 0 1 = cc in absurd (omega arith)
-      by_points h (Past p) s =
+      by_points h (Err why) s = let t = sym (rings_stop n at why h s) ∙ e in let z : ◌≡◌ {A = ℕ} 0 1 = cc in absurd (omega arith)
+      by_points h (Ok p) s =
           let in_bytes = points_within (count_of bytes order at) (at + 4) p h s in
           record {
             counted = h;
@@ -134,7 +134,7 @@ module _ (bytes : List ℕ) (order : ByteOrder) where
           }
 
   -- what is read where reading is not stopped
-  pub rings_laid : (n at q : ℕ) → end_of (rings bytes order n at) ≡ Past q → rings bytes order n at ≡ got (rings_of bytes order n at) q
+  pub rings_laid : (n at q : ℕ) → end_of (rings bytes order n at) ≡ Ok q → rings bytes order n at ≡ got (rings_of bytes order n at) q
   unfolding rings rings_of end_of
   rings_laid zero at q e = let s : at ≡ q = cc in ap (got []) s
   rings_laid (suc n) at q e =
@@ -142,35 +142,50 @@ module _ (bytes : List ℕ) (order : ByteOrder) where
       then_go (ring bytes order at) _ _ _ b.first
       ∙ then_go (rings bytes order n (next_of bytes order at)) _ _ _ (rings_laid n (next_of bytes order at) q b.later)
 
-  -- the invariant of a pass over n rings: from ring k on, which starts at a place, it ends where it ends from the first
-  pub record Passing (n start at k : ℕ) : Type 0 where
+  -- the invariant of a pass over n rings: from ring k on, which starts at a place, it ends as is told of it from the first
+  pub record Passing (told : Walked) (n at k : ℕ) : Type 0 where
     pub within : k ≤ n
     pub inside : at ≤ length bytes
-    pub same : end_of (rings bytes order (n - k) at) ≡ end_of (rings bytes order n start)
+    pub same : end_of (rings bytes order (n - k) at) ≡ told
 
-  pub passing : (n start : ℕ) → start ≤ length bytes → Passing n start start 0
+  pub passing : (n start : ℕ) → start ≤ length bytes → Passing (end_of (rings bytes order n start)) n start 0
   passing n start h = record { within = omega arith; inside = h; same = rw sub-zero }
 
-  module _ (n start at k : ℕ) (i : Passing n start at k) (h : k < n) where
+  module _ (told : Walked) (n at k : ℕ) (i : Passing told n at k) (h : k < n) where
     one_more : n - k ≡ suc (n - (k + 1))
     one_more = omega arith
 
-    pub pass_cut : length bytes - at < 4 → Stopped (Ends at) ≡ end_of (rings bytes order n start)
-    pass_cut l = let b = i.inside in sym (rings_cut (n - (k + 1)) at (omega arith)) ∙ ap (λ (m : ℕ). end_of (rings bytes order m at)) (sym one_more) ∙ i.same
+    pub pass_cut : (why : WkbRefusal) → value_of (field bytes order 4 at) ≡ Err why → Err why ≡ told
+    pass_cut why l =
+        let m = field_missed bytes order 4 at why l in
+        ap Err m.1 ∙ sym (rings_cut (n - (k + 1)) at m.0) ∙ ap (λ (m : ℕ). end_of (rings bytes order m at)) (sym one_more) ∙ i.same
 
-    pub pass_stop : (why : WkbRefusal) → 4 ≤ length bytes - at → end_of (points bytes order (count_of bytes order at) (at + 4)) ≡ Stopped why
-        → Stopped why ≡ end_of (rings bytes order n start)
-    pass_stop why l e = sym (rings_stop (n - (k + 1)) at why (omega arith) e) ∙ ap (λ (m : ℕ). end_of (rings bytes order m at)) (sym one_more) ∙ i.same
+    module _ (m : ℕ) (l : value_of (field bytes order 4 at) ≡ Ok m) where
+      pub pass_in : at + 4 ≤ length bytes
+      pass_in = (field_read bytes order 4 at m l).0
 
-    pub pass_on : (p : ℕ) → 4 ≤ length bytes - at → end_of (points bytes order (count_of bytes order at) (at + 4)) ≡ Past p → Passing n start p (k + 1)
-    pass_on p l e =
-        let w = points_within (count_of bytes order at) (at + 4) p (omega arith) e in
-        record {
-          within = omega arith;
-          inside = omega (arith, w.0, w.1);
-          same = sym (rings_on (n - (k + 1)) at p (omega arith) e) ∙ ap (λ (m : ℕ). end_of (rings bytes order m at)) (sym one_more) ∙ i.same;
-        }
+      counted : count_of bytes order at ≡ m
+      unfolding count_of
+      counted = (field_read bytes order 4 at m l).1
 
-  pub pass_done : (n start at k : ℕ) → Passing n start at k → n ≤ k → Past at ≡ end_of (rings bytes order n start)
+      pub pass_stop : (why : WkbRefusal) → end_of (points bytes order m (at + 4)) ≡ Err why → Err why ≡ told
+      pass_stop why e =
+          sym (rings_stop (n - (k + 1)) at why pass_in (ap (λ (j : ℕ). end_of (points bytes order j (at + 4))) counted ∙ e))
+          ∙ ap (λ (j : ℕ). end_of (rings bytes order j at)) (sym one_more)
+          ∙ i.same
+
+      pub pass_on : (p : ℕ) → end_of (points bytes order m (at + 4)) ≡ Ok p → Passing told n p (k + 1)
+      pass_on p e =
+          let w = points_within m (at + 4) p pass_in e in
+          record {
+            within = omega arith;
+            inside = omega (arith, w.0, w.1);
+            same =
+                sym (rings_on (n - (k + 1)) at p pass_in (ap (λ (j : ℕ). end_of (points bytes order j (at + 4))) counted ∙ e))
+                ∙ ap (λ (j : ℕ). end_of (rings bytes order j at)) (sym one_more)
+                ∙ i.same;
+          }
+
+  pub pass_done : (told : Walked) (n at k : ℕ) → Passing told n at k → n ≤ k → Ok at ≡ told
   unfolding rings end_of
-  pass_done n start at k i h = let e : n - k ≡ 0 = omega arith in (rw e at i.same)
+  pass_done told n at k i h = let e : n - k ≡ 0 = omega arith in (rw e at i.same)

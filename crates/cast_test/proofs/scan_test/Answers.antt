@@ -1,53 +1,30 @@
 -- `cast_test::scan_test` meets its contract. Assumes nothing.
-use mathlib.Core.Path.{sym, ap₂, ◌∙◌}
-use mathlib.Core.Bool.{◌&&◌}
+use mathlib.Core.Path.{sym}
 use native.Mathlib.Omega.{arith}
-use Rattle.rings.specs.Ring.{wide}
-use Rattle.rings.proofs.Checks.{sound_ring}
-use Rattle.cast_test.proofs.Scan.{tested_faulty, tested_unfit, tested_sound}
+use Rattle.answers.proofs.Refused.{refused}
+use Rattle.rings.specs.Ring.{meeting}
+use Rattle.rings.proofs.Checks.{Accepted, sound_ring}
+use Rattle.cast_test.specs.Test.{scan_tested_by}
 use Rattle.cast_test.proofs.scan_test.Goals as goal
+use Rattle.cast_test.proofs.scan_test.Goals.{In_ok-check_ring}
+
+sound : (c : In_ok-check_ring) → Accepted c.args.coords.now c.args.points
+sound c = sound_ring c.args.coords.now c.args.points (sym c.in_ok-check_ring.ensures)
 
 pub overflow_sub-points : goal.overflow_sub-points
-overflow_sub-points c =
-    let e = c in
-    let k = e in
-    let a = k.args in
-    let s = sound_ring a.coords.now a.points (sym k.check_ring-checked.ensures ∙ e.in-Sound.is) in
-    omega (arith, s.enough)
+overflow_sub-points c = omega (arith, (sound (goal.at.overflow_sub-points c).In_ok-check_ring).enough)
 
 pub scan_in-requires : goal.scan_in-requires
-scan_in-requires c =
-    let e = c in
-    let k = e in
-    let a = k.args in
-    let s = sound_ring a.coords.now a.points (sym k.check_ring-checked.ensures ∙ e.in-Sound.is) in
-    omega (arith, s.sizes, s.enough)
+scan_in-requires c = let s = sound (goal.at.scan_in-requires c).In_ok-check_ring in omega (arith, s.sizes, s.enough)
 
-pub returns-in-Faulty : goal.returns-in-Faulty
-returns-in-Faulty c =
-    let k = c in
-    let a = k.args in
-    sym
-    (tested_faulty _ (wide a.coords.now) a.points a.p a.edge _
-    (sym k.check_ring-checked.ensures ∙ c.in-Faulty.is))
+pub returns-in_err-check_ring : goal.returns-in_err-check_ring
+unfolding scan_tested_by
+returns-in_err-check_ring c = rw (refused c.from_residual.result c.from_residual.ensures.1, sym c.in_err-check_ring.ensures)
 
 pub returns-then-is_finite : goal.returns-then-is_finite
-returns-then-is_finite c =
-    let f = c in
-    let e = f in
-    let k = e in
-    let a = k.args in
-    c.scan_in.ensures
-    ∙ sym
-    (tested_sound _ (wide a.coords.now) a.points a.p a.edge
-    (sym k.check_ring-checked.ensures ∙ e.in-Sound.is) (ap₂ ◌&&◌ (sym f.is_finite.ensures) (sym f.is_finite-in-Sound.ensures) ∙ c.if-is_finite.true))
+unfolding scan_tested_by meeting
+returns-then-is_finite c = rw (sym c.in_ok-check_ring.ensures, ← c.is_finite.ensures, ← c.is_finite-2.ensures, c.if-is_finite.true) c.scan_in.ensures
 
 pub returns-else-is_finite : goal.returns-else-is_finite
-returns-else-is_finite c =
-    let f = c in
-    let e = f in
-    let k = e in
-    let a = k.args in
-    sym
-    (tested_unfit _ (wide a.coords.now) a.points a.p a.edge
-    (sym k.check_ring-checked.ensures ∙ e.in-Sound.is) (ap₂ ◌&&◌ (sym f.is_finite.ensures) (sym f.is_finite-in-Sound.ensures) ∙ c.if-is_finite.false))
+unfolding scan_tested_by
+returns-else-is_finite c = rw (sym c.in_ok-check_ring.ensures, ← c.is_finite.ensures, ← c.is_finite-2.ensures, c.if-is_finite.false)

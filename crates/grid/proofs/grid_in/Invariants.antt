@@ -1,5 +1,5 @@
 -- The loop's invariant: the ring test from segment i on, with the answer so far, is the whole ring test.
-use Prim.Native.Nat.{ℕ, ◌≤◌, ◌-◌}
+use Prim.Native.Nat.{ℕ}
 use mathlib.Core.Path.{◌≡◌}
 use mathlib.Core.Bool.{Bool, true, false}
 use mathlib.Core.List.{List}
@@ -14,8 +14,4 @@ abbrev pub rest : List ℤ → ℕ → ℤ → ℤ → Bool → Bool → ℕ →
 rest ring n px py edge answer i = test_from (on_at ring px py) (flip_at ring px py) edge answer (up_to (λ j. true) n i)
 
 abbrev pub invariant-loop-i : goal.invariant-loop-i
-invariant-loop-i l =
-    (l.i ≤ l.n) × (rest l.coords l.n l.px l.py l.edge l.answer l.i ≡ rest l.coords l.n l.px l.py l.edge false 0)
-
-abbrev pub decreases-loop-i : goal.decreases-loop-i
-decreases-loop-i l = l.n - l.i
+invariant-loop-i l = rest l.coords l.n l.px l.py l.edge l.answer l.i ≡ rest l.coords l.n l.px l.py l.edge false 0

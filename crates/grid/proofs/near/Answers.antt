@@ -1,37 +1,41 @@
 -- In the box the place is an i32, and the sign of the cross decides.
 use mathlib.Core.Path.{◌≡◌, sym, ◌∙◌}
+use mir.Syntax.{w32}
+use mir.Val.{SFits}
 use mir.Facts.{to_z-of_z}
 use Rattle.cross.specs.Cross.{cross, sign_of}
 use Rattle.grid.proofs.Within.{box_fits}
 use Rattle.grid.proofs.Results.{near_zero, near_above, near_below}
 use Rattle.grid.proofs.near.Goals as goal
-use Rattle.grid.proofs.near.Goals.{After-cross_sign-side}
+use Rattle.grid.proofs.near.Goals.{After-cross_sign}
 
-side : (c : After-cross_sign-side) → let a = c.args in c.cross_sign-side.result ≡ sign_of (cross a.ax a.ay a.bx a.by a.px a.py)
-side c = let a = c.args in let f = c.ranges in
-    let n = box_fits a.ax a.ay a.bx a.by a.px a.py f.ax f.ay f.bx f.by c.requires in
-    rw (to_z-of_z f.ax, to_z-of_z f.ay, to_z-of_z f.bx, to_z-of_z f.by, to_z-of_z f.px, to_z-of_z f.py, to_z-of_z n.0, to_z-of_z n.1) at c.cross_sign-side.ensures
+-- the ends' coordinates fit, and so does the place's
+ends : (c : After-cross_sign) → let s = c.args.seg in SFits w32 s.a.x × SFits w32 s.a.y × SFits w32 s.b.x × SFits w32 s.b.y
+ends c = let e = c.well_formed.0.1.1 in (record { sfits = e.0.1.1.0.1 }, record { sfits = e.0.1.1.1.0.1 }, record { sfits = e.1.0.1.1.0.1 }, record { sfits = e.1.0.1.1.1.0.1 })
 
-pub overflow_cast-x : goal.overflow_cast-x
-overflow_cast-x c = let a = c.args in let f = c.ranges in
-    rw (to_z-of_z f.px) (box_fits a.ax a.ay a.bx a.by a.px a.py f.ax f.ay f.bx f.by c.requires).0
+place : (c : After-cross_sign) → SFits w32 c.args.px × SFits w32 c.args.py
+place c = let s = c.args.seg in let f = ends c in box_fits s.a.x s.a.y s.b.x s.b.y c.args.px c.args.py f.0 f.1 f.2 f.3 c.requires
 
-pub overflow_cast-y : goal.overflow_cast-y
-overflow_cast-y c = let a = c.args in let f = c.ranges in
-    rw (to_z-of_z f.py) (box_fits a.ax a.ay a.bx a.by a.px a.py f.ax f.ay f.bx f.by c.requires).1
+side : (c : After-cross_sign) → let s = c.args.seg in c.cross_sign.result ≡ sign_of (cross s.a.x s.a.y s.b.x s.b.y c.args.px c.args.py)
+side c =
+    let f = ends c in let n = place c in let r = c.ranges in
+    rw (to_z-of_z f.0, to_z-of_z f.1, to_z-of_z f.2, to_z-of_z f.3, to_z-of_z r.px, to_z-of_z r.py, to_z-of_z n.0, to_z-of_z n.1) at c.cross_sign.ensures
 
 pub returns-in-Zero : goal.returns-in-Zero
-returns-in-Zero c = let a = c.args in
-    near_zero a.ax a.ay a.bx a.by a.px a.py c.requires (sym (side (goal.at.returns-in-Zero c).After-cross_sign-side) ∙ c.in-Zero.is)
+returns-in-Zero c =
+    let s = c.args.seg in let k = (goal.at.returns-in-Zero c).After-cross_sign in
+    near_zero s.a.x s.a.y s.b.x s.b.y c.args.px c.args.py c.requires (sym (side k) ∙ c.in-Zero.is)
 
 pub returns-in-Above : goal.returns-in-Above
-returns-in-Above c = let a = c.args in let f = c.ranges in
-    let n = box_fits a.ax a.ay a.bx a.by a.px a.py f.ax f.ay f.bx f.by c.requires in
-    rw (to_z-of_z f.ay, to_z-of_z f.by, to_z-of_z f.py, to_z-of_z n.1) at c.told.ensures
-    ∙ near_above a.ax a.ay a.bx a.by a.px a.py (sym (side (goal.at.returns-in-Above c).After-cross_sign-side) ∙ c.in-Above.is)
+returns-in-Above c =
+    let s = c.args.seg in let k = (goal.at.returns-in-Above c).After-cross_sign in
+    let f = ends k in let n = place k in
+    rw (to_z-of_z f.1, to_z-of_z f.3, to_z-of_z c.ranges.py, to_z-of_z n.1) at c.told.ensures
+    ∙ near_above s.a.x s.a.y s.b.x s.b.y c.args.px c.args.py (sym (side k) ∙ c.in-Above.is)
 
 pub returns-in-Below : goal.returns-in-Below
-returns-in-Below c = let a = c.args in let f = c.ranges in
-    let n = box_fits a.ax a.ay a.bx a.by a.px a.py f.ax f.ay f.bx f.by c.requires in
-    rw (to_z-of_z f.ay, to_z-of_z f.by, to_z-of_z f.py, to_z-of_z n.1) at c.told-in-Below.ensures
-    ∙ near_below a.ax a.ay a.bx a.by a.px a.py (sym (side (goal.at.returns-in-Below c).After-cross_sign-side) ∙ c.in-Below.is)
+returns-in-Below c =
+    let s = c.args.seg in let k = (goal.at.returns-in-Below c).After-cross_sign in
+    let f = ends k in let n = place k in
+    rw (to_z-of_z f.1, to_z-of_z f.3, to_z-of_z c.ranges.py, to_z-of_z n.1) at c.told-in-Below.ensures
+    ∙ near_below s.a.x s.a.y s.b.x s.b.y c.args.px c.args.py (sym (side k) ∙ c.in-Below.is)

@@ -1,20 +1,27 @@
 -- `outline_build::build_indexes` meets its contract. Assumes nothing.
-use mathlib.Core.Path.{sym, ◌∙◌}
-use Rattle.outline_build.proofs.Outcomes.{built_faulty, built_sound}
+use mathlib.Core.Path.{◌≡◌, sym, ◌∙◌}
+use Rattle.std.proofs.Common.{Err, rules}
+use Rattle.outline_build.proofs.Outcomes.{built_faulty, built_sound, indexed_room}
 use Rattle.outline_build.proofs.build_indexes.Goals as goal
 
-pub build_shaped-requires : goal.build_shaped-requires
-build_shaped-requires c = sym c.check_shape-checked.ensures ∙ c.in-Sound.is
-
-pub returns-in-Faulty : goal.returns-in-Faulty
-returns-in-Faulty c =
+pub returns-in_err-check_shape : goal.returns-in_err-check_shape
+returns-in_err-check_shape c =
     let a = c.args in
-    built_faulty a.sizes.now a.coords.now a.options a.table.now a.spans.now a.stripes.now a.list.now a.bytes.now a.work.now _
-    (sym c.check_shape-checked.ensures ∙ c.in-Faulty.is)
+    let told : c.from_residual.result ≡ Err c.in_err-check_shape.field-0.0 = search rules in
+    rw told
+    (built_faulty a.sizes.now a.coords.now a.options a.table.now a.spans.now a.stripes.now a.list.now a.bytes.now a.work.now _
+    (sym c.check_shape.ensures ∙ c.in_err-check_shape.was))
 
-pub returns-in-Sound : goal.returns-in-Sound
-returns-in-Sound c =
+pub returns : goal.returns
+returns c =
     let a = c.args in
     built_sound a.sizes.now a.coords.now a.options a.table.now a.spans.now a.stripes.now a.list.now a.bytes.now a.work.now
-    (sym c.check_shape-checked.ensures ∙ c.in-Sound.is)
-    ∙ c.build_shaped.ensures
+    (sym c.check_shape.ensures ∙ c.in_ok-check_shape.was)
+    ∙ indexed_room a.options a.sizes.now a.coords.now a.table.now a.spans.now a.stripes.now a.list.now a.bytes.now a.work.now _ _ _ _ _ _
+    c.zero_all.auto.table
+    c.zero_all.auto.spans
+    c.zero_all.auto.stripes
+    c.zero_all.auto.list
+    c.zero_all.auto.bytes
+    c.zero_all.auto.work
+    ∙ c.build_zeroed.ensures

@@ -1,49 +1,61 @@
-use Prim.Native.Nat.{ℕ, ◌≤◌}
-use mathlib.Core.Path.{◌≡◌, sym, ◌∙◌, ap}
-use mathlib.Core.List.{List}
-use mathlib.Core.Bool.{Bool, not}
+use Prim.Native.Nat.{ℕ}
+use mathlib.Core.Path.{◌≡◌, sym, ◌∙◌}
 use lib.ListN.{length}
 use lib.Dec.{ltb}
 use borrow.Author.Tests.{lt-ltb, le-ltb}
+use Rattle.std.proofs.Common.{Bool, Some, None, rules, tests}
+use Rattle.std.specs.List.{position}
+use Rattle.std.proofs.lemmas.Iterator.{YieldsList-from_slice}
+use Rattle.std.proofs.lemmas.Iterator.Search.{position_from_yields_List}
 use Rattle.answers.specs.declared.Refusal.TheVariants.{TooFew, TooMany}
-use Rattle.rings.specs.declared.Checked.{Checked}
-use Rattle.rings.specs.declared.Checked.TheVariants.{Sound}
-use Rattle.rings.specs.Checks.{holding, then_checked}
-use Rattle.outline_check.specs.Rules.{for_each, enough, not_over}
 use Rattle.outline_check.specs.Inner.Counted.{counts_checked}
-use Rattle.outline_check.proofs.Sound.{counts_step, counts_none}
+use Rattle.outline_check.proofs.Rules.{each_named}
+use Rattle.outline_check.proofs.check_counts.Goals.{After-position, After-position-2}
 use Rattle.outline_check.proofs.check_counts.Goals as goal
 
--- rule 2, asked once no ring is under 2 points
-abbrev rest : List ℕ → Checked
-rest sizes = holding (not (ltb 64 (length sizes))) (TooMany 64) (for_each (not_over sizes) TooMany (length sizes) Sound)
+-- the tests of the two searches
+abbrev under : ℕ → Bool
+under n = ltb n 2
 
--- what rule 1 found of the rings, and what then follows
-step : (sizes : List ℕ) (found : Checked) → 1 ≤ length sizes → for_each (enough sizes) TooFew (length sizes) Sound ≡ found
-    → counts_checked sizes ≡ then_checked found (rest sizes)
-step sizes found h e = counts_step sizes h ∙ ap (λ (x : Checked). then_checked x (rest sizes)) e
+abbrev over : ℕ → Bool
+over n = ltb 4097 n
+
+few : (c : After-position) → c.position.result ≡ position under c.args.sizes.now
+few c = position_from_yields_List under _ _ c.position.result c.position.ensures.ran (YieldsList-from_slice _ c.iter.ensures.rest) (λ x b q k. search (rules, tests))
+
+many : (c : After-position-2) → c.position-2.result ≡ position over c.args.sizes.now
+many c = position_from_yields_List over _ _ c.position-2.result c.position-2.ensures.ran (YieldsList-from_slice _ c.iter-2.ensures.rest) (λ x b q k. search (rules, tests))
 
 pub returns-then-sizes-lt-MIN_RINGS : goal.returns-then-sizes-lt-MIN_RINGS
-returns-then-sizes-lt-MIN_RINGS c = sym (counts_none c.args.sizes.now c.if-sizes-lt-MIN_RINGS.true)
+unfolding counts_checked
+returns-then-sizes-lt-MIN_RINGS c = rw (lt-ltb _ 1 c.if-sizes-lt-MIN_RINGS.true)
 
-pub returns-in_default : goal.returns-in_default
-returns-in_default c =
+pub returns-in-Some : goal.returns-in-Some
+unfolding counts_checked
+returns-in-Some c =
     let sizes = c.args.sizes.now in
-    let told = c.in_default.is in
-    told ∙ sym (step sizes _ c.if-sizes-lt-MIN_RINGS.false (sym c.check_few-few.ensures ∙ told))
+    let e : position under sizes ≡ Some c.in-Some.k = sym (few (goal.at.returns-in-Some c).After-position) ∙ c.in-Some.is in
+    rw (le-ltb (length sizes) 1 c.if-sizes-lt-MIN_RINGS.false, each_named under sizes TooFew _, e)
 
 pub returns-then-sizes-gt-MAX_RINGS : goal.returns-then-sizes-gt-MAX_RINGS
+unfolding counts_checked
 returns-then-sizes-gt-MAX_RINGS c =
     let sizes = c.args.sizes.now in
-    let told = sym c.check_few-few.ensures ∙ c.in-Sound.is in
-    let many = ap not (lt-ltb 64 (length sizes) c.if-sizes-gt-MAX_RINGS.true) in
-    sym (step sizes Sound c.if-sizes-lt-MIN_RINGS.false told ∙ ap (λ (t : Bool). holding t (TooMany 64) (for_each (not_over sizes) TooMany (length sizes) Sound)) many)
+    let e : position under sizes ≡ None = sym (few (goal.at.returns-then-sizes-gt-MAX_RINGS c).After-position) ∙ c.in_default.is in
+    rw (le-ltb (length sizes) 1 c.if-sizes-lt-MIN_RINGS.false, each_named under sizes TooFew _, e, lt-ltb 64 _ c.if-sizes-gt-MAX_RINGS.true)
+
+pub returns-in-Some-position : goal.returns-in-Some-position
+unfolding counts_checked
+returns-in-Some-position c =
+    let sizes = c.args.sizes.now in
+    let e : position under sizes ≡ None = sym (few (goal.at.returns-in-Some-position c).After-position) ∙ c.in_default.is in
+    let o : position over sizes ≡ Some c.in-Some-position.k = sym (many (goal.at.returns-in-Some-position c).After-position-2) ∙ c.in-Some-position.is in
+    rw (le-ltb (length sizes) 1 c.if-sizes-lt-MIN_RINGS.false, each_named under sizes TooFew _, e, le-ltb 64 _ c.if-sizes-gt-MAX_RINGS.false, each_named over sizes TooMany _, o)
 
 pub returns : goal.returns
+unfolding counts_checked
 returns c =
-    let b = c in
-    let sizes = b.args.sizes.now in
-    let told = sym b.check_few-few.ensures ∙ c.in-Sound.is in
-    let many = ap not (le-ltb 64 (length sizes) c.if-sizes-gt-MAX_RINGS.false) in
-    c.check_many.ensures
-    ∙ sym (step sizes Sound b.if-sizes-lt-MIN_RINGS.false told ∙ ap (λ (t : Bool). holding t (TooMany 64) (for_each (not_over sizes) TooMany (length sizes) Sound)) many)
+    let sizes = c.args.sizes.now in
+    let e : position under sizes ≡ None = sym (few (goal.at.returns c).After-position) ∙ c.in_default.is in
+    let o : position over sizes ≡ None = sym (many (goal.at.returns c).After-position-2) ∙ c.in_default-position.is in
+    rw (le-ltb (length sizes) 1 c.if-sizes-lt-MIN_RINGS.false, each_named under sizes TooFew _, e, le-ltb 64 _ c.if-sizes-gt-MAX_RINGS.false, each_named over sizes TooMany _, o)

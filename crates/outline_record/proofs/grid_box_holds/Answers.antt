@@ -1,14 +1,14 @@
-use mir.Syntax.{w64}
-use mir.Val.{SFits}
+use Rattle.std.proofs.Common.{◌≡◌, ◌+◌, ◌*◌, rules, add-zero, to_z, of_z, w64}
 use mir.Facts.{to_z-of_z}
-use native.Mathlib.Nat.{add-zero}
+use Rattle.outline_record.specs.Record.{number_at}
 use Rattle.outline_record.proofs.grid_box_holds.Goals as goal
 
 pub returns : goal.returns
 returns c =
-    let f = c.ranges in
-    let f0 : SFits w64 c.whole_at.result = record { sfits = c.whole_at.type_inv } in
-    let f1 : SFits w64 c.whole_at-2.result = record { sfits = c.whole_at-2.type_inv } in
-    let f2 : SFits w64 c.whole_at-3.result = record { sfits = c.whole_at-3.type_inv } in
-    let f3 : SFits w64 c.whole_at-4.result = record { sfits = c.whole_at-4.type_inv } in
-    rw (to_z-of_z f.x, to_z-of_z f.y, to_z-of_z f0, to_z-of_z f1, to_z-of_z f2, to_z-of_z f3, c.whole_at.ensures, c.whole_at-2.ensures, c.whole_at-3.ensures, c.whole_at-4.ensures, add-zero)
+    let boxes = c.args.boxes.now in
+    let k = c.args.k in
+    let west : to_z w64 (of_z w64 c.side.result) ≡ number_at boxes (4 * k + 0) = search rules in
+    let east : to_z w64 (of_z w64 c.side-2.result) ≡ number_at boxes (4 * k + 2) = search rules in
+    let south : to_z w64 (of_z w64 c.side-3.result) ≡ number_at boxes (4 * k + 1) = search rules in
+    let north : to_z w64 (of_z w64 c.side-4.result) ≡ number_at boxes (4 * k + 3) = search rules in
+    rw (to_z-of_z c.ranges.x, to_z-of_z c.ranges.y, west, east, south, north, add-zero)

@@ -1,4 +1,4 @@
-use Prim.Native.Nat.{◌*◌, ◌-◌, ◌≤◌}
+use Prim.Native.Nat.{◌*◌, ◌≤◌}
 use mathlib.Core.Path.{◌≡◌}
 use lib.ListN.{length}
 use Rattle.room.specs.Room.{write}
@@ -8,7 +8,4 @@ use Rattle.outline_record.proofs.put_boxes.Given as goal
 
 abbrev pub invariant-loop-k : goal.invariant-loop-k
 invariant-loop-k l =
-    (l.k ≤ length l.sizes) × (l.start ≡ 2 * start_of l.sizes l.k) × (l.out ≡ write l.initial.out 0 (boxes_to l.sizes l.coords l.k)) × (length l.out ≡ length l.initial.out)
-
-abbrev pub decreases-loop-k : goal.decreases-loop-k
-decreases-loop-k l = length l.sizes - l.k
+    (l.k ≤ length l.sound.sizes.now) × (l.start ≡ 2 * start_of l.sound.sizes.now l.k) × (l.out ≡ write l.initial.out 0 (boxes_to l.sound.sizes.now l.sound.coords.now l.k)) × (length l.out ≡ length l.initial.out)

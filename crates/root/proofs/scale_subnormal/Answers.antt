@@ -1,25 +1,17 @@
--- `root::scale_subnormal` meets its contract. After i turns the digits are n * 4 ^ i. Assumes nothing.
+-- `root::scale_subnormal` meets its contract. Assumes nothing.
+use Prim.Native.Nat.{◌/◌}
 use native.Mathlib.Omega.{arith}
-use Rattle.root.proofs.Patterns.{widened_start, widened_more, widened_turn, widened_done}
+use Rattle.root.proofs.Patterns.{widened, widened_done, pairs_fit}
 use Rattle.root.proofs.scale_subnormal.Goals as goal
 
-pub loop-digits-init : goal.loop-digits-init
-loop-digits-init c = widened_start _ c.requires.0 c.requires.1
+pub overflow_sub-pairs : goal.overflow_sub-pairs
+overflow_sub-pairs c = let w = widened _ _ c.requires.1 c.ilog2.ensures.power_le c.ilog2.ensures.next_power_gt in omega arith
 
-pub overflow_mul-digits : goal.overflow_mul-digits
-overflow_mul-digits c = omega arith
+pub pow-requires : goal.pow-requires
+pow-requires c = pairs_fit (c.ilog2.result / 2)
 
-pub overflow_add-i : goal.overflow_add-i
-overflow_add-i c = omega arith
-
-pub loop-digits-smaller : goal.loop-digits-smaller
-loop-digits-smaller c = omega (arith, widened_more _ _ _ c.loop-digits.invariant c.loop-digits-test.true)
-
-pub loop-digits-preserved : goal.loop-digits-preserved
-loop-digits-preserved c = widened_turn _ _ _ c.loop-digits.invariant c.loop-digits-test.true
-
-pub overflow_sub-result : goal.overflow_sub-result
-overflow_sub-result c = omega arith
+pub overflow_mul-result : goal.overflow_mul-result
+overflow_mul-result c = let w = widened _ _ c.requires.1 c.ilog2.ensures.power_le c.ilog2.ensures.next_power_gt in rw c.pow.ensures (omega arith)
 
 pub returns : goal.returns
-returns c = widened_done _ _ _ c.requires.1 c.loop-digits.invariant c.loop-digits-test.false
+returns c = rw (c.pow.ensures, c.from.ensures) (widened_done _ _ c.requires.1 c.ilog2.ensures.power_le c.ilog2.ensures.next_power_gt)

@@ -1,18 +1,11 @@
 -- `root::sqrt` meets its contract: each way out has the value that `sqrt_of` computes. Assumes nothing.
-use borrow.Author.Rules.{rules}
 use mathlib.Core.Path.{sym, ap, subst, ◌∙◌}
 use lib.Dec.{T}
 use lib.Ieee.{binary64, of_bits, div}
 use lib.Ieee.Bits.{of_bits-to_bits}
 use Rattle.root.specs.Computed.{sqrt_of}
-use Rattle.root.proofs.Ends.{above_zero, positive_no_nan, positive_bits, finite_bits, below_zero, stays, meets}
+use Rattle.root.proofs.Ends.{above_zero, positive_bits, finite_bits, below_zero, stays, meets}
 use Rattle.root.proofs.sqrt.Goals as goal
-
-pub is_finite-requires : goal.is_finite-requires
-is_finite-requires c = search rules
-
-pub float_to_bits-x : goal.float_to_bits-x
-float_to_bits-x c = positive_no_nan _ (above_zero _ _ c.is_finite.ensures c.if-x-is_finite.true)
 
 pub root_bits-requires : goal.root_bits-requires
 root_bits-requires c =

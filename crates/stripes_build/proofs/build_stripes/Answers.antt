@@ -1,30 +1,27 @@
 -- `stripes_build::build_stripes` meets its contract. Assumes nothing.
-use mathlib.Core.Path.{sym, ◌∙◌}
+use mathlib.Core.Path.{sym}
 use native.Mathlib.Omega.{arith}
-use Rattle.rings.proofs.Checks.{sound_ring}
-use Rattle.rings.specs.Ring.{wide}
-use Rattle.stripes_build.proofs.Building.{built_faulty, built_sound}
+use Rattle.answers.proofs.Refused.{refused}
+use Rattle.rings.proofs.Checks.{Accepted, sound_ring}
+use Rattle.stripes_build.specs.Build.{stripes_built_by}
 use Rattle.stripes_build.proofs.build_stripes.Goals as goal
+use Rattle.stripes_build.proofs.build_stripes.Goals.{In_ok-check_ring}
 
-pub overflow_sub-points : goal.overflow_sub-points
-overflow_sub-points c =
-    let a = c.args in
-    let s = sound_ring a.coords.now a.points (sym c.check_ring-checked.ensures ∙ c.in-Sound.is) in
-    omega (arith, s.enough)
+sound : (c : In_ok-check_ring) → Accepted c.args.coords.now c.args.points
+sound c = sound_ring c.args.coords.now c.args.points (sym c.in_ok-check_ring.ensures)
 
-pub build_sound-requires : goal.build_sound-requires
-build_sound-requires c =
-    let a = c.args in
-    let s = sound_ring a.coords.now a.points (sym c.check_ring-checked.ensures ∙ c.in-Sound.is) in
-    (omega (arith, s.sizes), omega (arith, s.enough), omega (arith, s.few))
+pub overflow_sub-ring : goal.overflow_sub-ring
+overflow_sub-ring c = omega (arith, (sound (goal.at.overflow_sub-ring c).In_ok-check_ring).enough)
 
-pub returns-in-Faulty : goal.returns-in-Faulty
-returns-in-Faulty c =
-    let a = c.args in
-    built_faulty _ (wide a.coords.now) a.points a.threshold a.stripes.now a.list.now _ (sym c.check_ring-checked.ensures ∙ c.in-Faulty.is)
+pub invariant_of-ring : goal.invariant_of-ring
+invariant_of-ring c =
+    let s = sound (goal.at.invariant_of-ring c).In_ok-check_ring in
+    record { checked = (omega (arith, s.sizes, s.enough), omega (arith, s.enough), omega (arith, s.few)) }
 
-pub returns-in-Sound : goal.returns-in-Sound
-returns-in-Sound c =
-    let a = c.args in
-    built_sound _ (wide a.coords.now) a.points a.threshold a.stripes.now a.list.now (sym c.check_ring-checked.ensures ∙ c.in-Sound.is)
-    ∙ c.build_sound.ensures
+pub returns-in_err-check_ring : goal.returns-in_err-check_ring
+unfolding stripes_built_by
+returns-in_err-check_ring c = rw (refused c.from_residual.result c.from_residual.ensures.1, sym c.in_err-check_ring.ensures)
+
+pub returns : goal.returns
+unfolding stripes_built_by
+returns c = rw (sym c.in_ok-check_ring.ensures) c.build_sound.ensures

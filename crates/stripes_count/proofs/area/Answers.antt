@@ -1,18 +1,7 @@
--- `stripes_count::area` meets its contract. The invariant: what is summed so far is the sum over the first i segments. Assumes nothing.
-use Rattle.std.proofs.Common.{◌≡◌, refl, add-one, arith}
-use Rattle.stripes_count.specs.Count.{sum_to}
+-- `stripes_count::area` meets its contract. Assumes nothing.
+use Rattle.std.proofs.Common.{rules}
+use Rattle.stripes_count.specs.Count.{cross_of}
 use Rattle.stripes_count.proofs.area.Goals as goal
 
-pub loop-i-init : goal.loop-i-init
-unfolding sum_to
-loop-i-init c = (omega arith, refl)
-
-pub loop-i-preserved : goal.loop-i-preserved
-unfolding sum_to
-loop-i-preserved c = (omega arith, simp (add-one, c.cross-sum.ensures, c.ends_at.ensures, c.loop-i.invariant.1))
-
 pub returns : goal.returns
-returns c =
-    let l = c.loop-i in
-    let last : l.i ≡ c.args.segments = omega arith in
-    simp (c.abs.ensures, ← last, l.invariant.1)
+returns c = simp (c.abs.ensures, c.sum_over.ensures cross_of (λ s r h. search rules))

@@ -1,8 +1,7 @@
 -- `stripes_find::list_run` meets its contract. The invariant is `Listing`. Assumes nothing.
-use mathlib.Core.Path.{◌≡◌}
-use mathlib.Core.List.{List}
 use mathlib.Core.Bool.{Bool}
-use Prim.Native.Nat.{ℕ, ◌-◌, ◌≤◌}
+use mathlib.Core.List.{List}
+use Prim.Native.Nat.{ℕ, ◌≤◌}
 use lib.ListN.{length}
 use lib.IntN.{ℤ}
 use lib.Ieee.{Float}
@@ -14,8 +13,7 @@ abbrev pub test : List ℤ → Float → ℕ → Bool
 test ring y i = holds_height (side_at (wide ring) i) y
 
 abbrev pub invariant-loop-at : goal.invariant-loop-at
-invariant-loop-at l =
-    Listing l.n (test l.ring l.y) l.list l.start l.past l.initial.out l.out l.k l.at × (length l.out ≡ length l.initial.out) × (l.at ≤ l.past) × (l.k ≤ length l.out)
-
-abbrev pub decreases-loop-at : goal.decreases-loop-at
-decreases-loop-at l = l.past - l.at
+invariant-loop-at l = record {
+  listing : Listing l.n (test l.ring l.y) l.list l.start l.past l.initial.out l.out l.k l.at;
+  fits : l.k ≤ length l.out;
+}

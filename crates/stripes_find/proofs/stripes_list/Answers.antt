@@ -1,38 +1,29 @@
 -- `stripes_find::stripes_list` meets its contract. Assumes nothing.
 use mathlib.Core.Path.{sym, ◌∙◌}
 use native.Mathlib.Omega.{arith}
-use Rattle.rings.proofs.Checks.{sound_ring}
-use Rattle.rings.specs.Ring.{wide}
-use Rattle.stripes_find.proofs.Pouring.{listed_faulty, listed_height, listed_sound}
+use Rattle.answers.proofs.Refused.{refused}
+use Rattle.rings.proofs.Checks.{Accepted, sound_ring}
+use Rattle.stripes_find.specs.Listing.{stripes_listed_by}
 use Rattle.stripes_find.proofs.stripes_list.Goals as goal
+use Rattle.stripes_find.proofs.stripes_list.Goals.{In_ok-check_ring}
+
+sound : (c : In_ok-check_ring) → Accepted c.args.coords.now c.args.points
+sound c = sound_ring c.args.coords.now c.args.points (sym c.in_ok-check_ring.ensures)
 
 pub overflow_sub-points : goal.overflow_sub-points
-overflow_sub-points c =
-    let a = c.args in
-    let s = sound_ring a.coords.now a.points (sym c.check_ring-checked.ensures ∙ c.in-Sound.is) in
-    omega (arith, s.enough)
+overflow_sub-points c = omega (arith, (sound (goal.at.overflow_sub-points c).In_ok-check_ring).enough)
 
 pub list_sound-requires : goal.list_sound-requires
-list_sound-requires c =
-    let a = c.args in
-    let s = sound_ring a.coords.now a.points (sym c.check_ring-checked.ensures ∙ c.in-Sound.is) in
-    omega (arith, s.sizes, s.enough)
+list_sound-requires c = let s = sound (goal.at.list_sound-requires c).In_ok-check_ring in omega (arith, s.sizes, s.enough)
 
-pub returns-in-Faulty : goal.returns-in-Faulty
-returns-in-Faulty c =
-    let a = c.args in
-    listed_faulty _ (wide a.coords.now) a.points a.least a.height a.stripes.now a.list.now a.y a.out.now _
-    (sym c.check_ring-checked.ensures ∙ c.in-Faulty.is)
+pub returns-in_err-check_ring : goal.returns-in_err-check_ring
+unfolding stripes_listed_by
+returns-in_err-check_ring c = rw (refused c.from_residual.result c.from_residual.ensures.1, sym c.in_err-check_ring.ensures)
 
 pub returns-then-is_finite : goal.returns-then-is_finite
-returns-then-is_finite c =
-    let a = c.args in
-    listed_sound _ (wide a.coords.now) a.points a.least a.height a.stripes.now a.list.now a.y a.out.now
-    (sym c.check_ring-checked.ensures ∙ c.in-Sound.is) (sym c.is_finite.ensures ∙ c.if-is_finite.true)
-    ∙ c.list_sound.ensures
+unfolding stripes_listed_by
+returns-then-is_finite c = rw (sym c.in_ok-check_ring.ensures, sym c.is_finite.ensures ∙ c.if-is_finite.true) c.list_sound.ensures
 
 pub returns-else-is_finite : goal.returns-else-is_finite
-returns-else-is_finite c =
-    let a = c.args in
-    listed_height _ (wide a.coords.now) a.points a.least a.height a.stripes.now a.list.now a.y a.out.now
-    (sym c.check_ring-checked.ensures ∙ c.in-Sound.is) (sym c.is_finite.ensures ∙ c.if-is_finite.false)
+unfolding stripes_listed_by
+returns-else-is_finite c = rw (sym c.in_ok-check_ring.ensures, sym c.is_finite.ensures ∙ c.if-is_finite.false)

@@ -1,21 +1,8 @@
--- `stripes_index::greatest_y` meets its contract. The invariant: it holds of the first i segments. Assumes nothing.
-use mathlib.Core.Path.{◌≡◌}
-use native.Mathlib.Omega.{arith}
-use native.Mathlib.Numerals.{add-one}
-use Rattle.stripes_index.specs.Index.{greatest_y}
+-- `stripes_index::greatest_y` meets its contract. Assumes nothing.
+use Rattle.std.proofs.Common.{◌∙◌, rules}
+use Rattle.floats.specs.Values.{greater_of}
+use Rattle.stripes_index.proofs.Picked.{greatest_picked}
 use Rattle.stripes_index.proofs.greatest_y.Goals as goal
 
-pub loop-i-init : goal.loop-i-init
-unfolding greatest_y
-loop-i-init c = (omega arith, c.coordinate-greatest.ensures)
-
-pub loop-i-preserved : goal.loop-i-preserved
-unfolding greatest_y
-loop-i-preserved c =
-    (omega arith, simp (add-one, c.greater-greatest.ensures, c.high_end.ensures, c.loop-i.invariant.1))
-
 pub returns : goal.returns
-returns c =
-    let l = c.loop-i in
-    let last : l.i ≡ c.args.n = omega arith in
-    rw (← last) l.invariant.1
+returns c = c.height_by.ensures greater_of (λ a b r h. search rules) ∙ greatest_picked _ _

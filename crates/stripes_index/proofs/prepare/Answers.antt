@@ -11,33 +11,29 @@ use Rattle.stripes_index.proofs.prepare.Goals as goal
 
 pub place_starts-requires : goal.place_starts-requires
 place_starts-requires c =
-    let k = c in
-    let b = k in
-    let a = b.args in
-    let cross = crosses (wide a.ring.now) a.least a.height a.m in
-    let w = k.count_all.ensures in
-    let e = k.count_all.auto.stripes in
+    let a = c.args in
+    let cross = crosses (wide a.ring.now) a.cut.least a.cut.height a.cut.stripes in
+    let w = c.count_all.ensures in
+    let e = c.count_all.auto.stripes in
     record {
       m_bound = (
         omega arith,
         omega arith,
-        λ s h. omega (arith, counted cross a.n a.m (length a.stripes.now) _ w s h, part_length cross a.n s),
+        λ s h. omega (arith, counted cross a.n a.cut.stripes (length a.stripes.now) _ w s h, part_length cross a.n s),
       );
-      stripes_value = counted_form cross a.n a.m (length a.stripes.now) _ w e;
+      stripes_value = counted_form cross a.n a.cut.stripes (length a.stripes.now) _ w e;
     }
 
 pub returns : goal.returns
 returns c =
-    let p = c in
-    let k = p in
-    let a = k.args in
-    let cross = crosses (wide a.ring.now) a.least a.height a.m in
-    let w = k.count_all.ensures in
-    let e = k.count_all.auto.stripes in
+    let a = c.args in
+    let cross = crosses (wide a.ring.now) a.cut.least a.cut.height a.cut.stripes in
+    let w = c.count_all.ensures in
+    let e = c.count_all.auto.stripes in
     record {
       entries_value = (
-        p.place_starts.ensures.entries_value.0 ∙ counted_entries cross a.n a.m (length a.stripes.now) _ w,
-        p.place_starts.ensures.entries_value.1 ∙ counted_fullest cross a.n a.m (length a.stripes.now) _ w,
+        c.place_starts.ensures.entries_value.0 ∙ counted_entries cross a.n a.cut.stripes (length a.stripes.now) _ w,
+        c.place_starts.ensures.entries_value.1 ∙ counted_fullest cross a.n a.cut.stripes (length a.stripes.now) _ w,
       );
-      stripes_after = p.place_starts.ensures.stripes_after ∙ ap₂ pad e (counted_table cross a.n a.m (length a.stripes.now) _ w);
+      stripes_after = c.place_starts.ensures.stripes_after ∙ ap₂ pad e (counted_table cross a.n a.cut.stripes (length a.stripes.now) _ w);
     }

@@ -1,12 +1,18 @@
 -- What the lent room holds between the turns of the loops that fill it: the inner functions' contracts cite these.
-use Rattle.std.specs.Prelude.{Bool, List, [], ◌∷◌, ℕ, zero, suc, ◌+◌, ◌-◌, ◌*◌, ◌/◌, max, length, get_or}
+use Rattle.std.specs.Prelude.{Bool, List, [], ◌∷◌, ℕ, zero, suc, ◌+◌, ◌-◌, ◌*◌, ◌/◌, max, length, get_or, Float}
 use Rattle.room.specs.Room.{pad}
+use Rattle.rings.specs.Ring.{spot_at, side_at}
 use Rattle.stripes_index.specs.Joined.{joined}
 use Rattle.stripes_index.specs.Index.{part_of, list_of}
 
 -- how many segments so many numbers make, two a point
 abbrev pub held : ℕ → ℕ
 held long = long / 2 - 1
+
+-- of the heights that the first n segments reach, from the first point's on, the one that is better than those before it
+unfoldable pub picked : (Float → Float → Float) → (ℕ → Float) → ℕ → Float
+picked better ring zero = (spot_at ring 0).y
+picked better ring (suc k) = better (picked better ring k) (better (side_at ring k).a.y (side_at ring k).b.y)
 
 -- two numbers a stripe
 abbrev pub pairs : (ℕ → ℕ) → (ℕ → ℕ) → ℕ → List ℕ

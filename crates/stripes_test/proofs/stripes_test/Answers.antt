@@ -1,42 +1,29 @@
 -- `stripes_test::stripes_test` meets its contract. Assumes nothing.
-use mathlib.Core.Path.{sym, ap₂, ◌∙◌}
-use mathlib.Core.Bool.{◌&&◌}
+use mathlib.Core.Path.{sym}
 use native.Mathlib.Omega.{arith}
-use Rattle.rings.proofs.Checks.{sound_ring}
-use Rattle.rings.specs.Ring.{wide}
-use Rattle.stripes_test.proofs.Verdict.{tested_faulty, tested_unfit, tested_sound}
+use Rattle.answers.proofs.Refused.{refused}
+use Rattle.rings.proofs.Checks.{Accepted, sound_ring}
+use Rattle.stripes_test.specs.Test.{stripes_tested_by}
 use Rattle.stripes_test.proofs.stripes_test.Goals as goal
+use Rattle.stripes_test.proofs.stripes_test.Goals.{In_ok-check_ring}
+
+sound : (c : In_ok-check_ring) → Accepted c.args.coords.now c.args.points
+sound c = sound_ring c.args.coords.now c.args.points (sym c.in_ok-check_ring.ensures)
 
 pub overflow_sub-points : goal.overflow_sub-points
-overflow_sub-points c =
-    let a = c.args in
-    let s = sound_ring a.coords.now a.points (sym c.check_ring-checked.ensures ∙ c.in-Sound.is) in
-    omega (arith, s.enough)
+overflow_sub-points c = omega (arith, (sound (goal.at.overflow_sub-points c).In_ok-check_ring).enough)
 
 pub test_in-requires : goal.test_in-requires
-test_in-requires c =
-    let a = c.args in
-    let s = sound_ring a.coords.now a.points (sym c.check_ring-checked.ensures ∙ c.in-Sound.is) in
-    omega (arith, s.sizes, s.enough)
+test_in-requires c = let s = sound (goal.at.test_in-requires c).In_ok-check_ring in omega (arith, s.sizes, s.enough)
 
-pub returns-in-Faulty : goal.returns-in-Faulty
-returns-in-Faulty c =
-    let a = c.args in
-    sym
-    (tested_faulty _ (wide a.coords.now) a.points a.least a.height a.stripes.now a.list.now a.p a.edge _
-    (sym c.check_ring-checked.ensures ∙ c.in-Faulty.is))
+pub returns-in_err-check_ring : goal.returns-in_err-check_ring
+unfolding stripes_tested_by
+returns-in_err-check_ring c = rw (refused c.from_residual.result c.from_residual.ensures.1, sym c.in_err-check_ring.ensures)
 
 pub returns-then-is_finite : goal.returns-then-is_finite
-returns-then-is_finite c =
-    let a = c.args in
-    c.test_in.ensures
-    ∙ sym
-    (tested_sound _ (wide a.coords.now) a.points a.least a.height a.stripes.now a.list.now a.p a.edge
-    (sym c.check_ring-checked.ensures ∙ c.in-Sound.is) (ap₂ ◌&&◌ (sym c.is_finite.ensures) (sym c.is_finite-in-Sound.ensures) ∙ c.if-is_finite.true))
+unfolding stripes_tested_by
+returns-then-is_finite c = rw (sym c.in_ok-check_ring.ensures, ← c.is_finite.ensures, ← c.is_finite-2.ensures, c.if-is_finite.true) c.test_in.ensures
 
 pub returns-else-is_finite : goal.returns-else-is_finite
-returns-else-is_finite c =
-    let a = c.args in
-    sym
-    (tested_unfit _ (wide a.coords.now) a.points a.least a.height a.stripes.now a.list.now a.p a.edge
-    (sym c.check_ring-checked.ensures ∙ c.in-Sound.is) (ap₂ ◌&&◌ (sym c.is_finite.ensures) (sym c.is_finite-in-Sound.ensures) ∙ c.if-is_finite.false))
+unfolding stripes_tested_by
+returns-else-is_finite c = rw (sym c.in_ok-check_ring.ensures, ← c.is_finite.ensures, ← c.is_finite-2.ensures, c.if-is_finite.false)

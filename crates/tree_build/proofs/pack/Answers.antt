@@ -13,13 +13,6 @@ pub returns-then-bytes-size : goal.returns-then-bytes-size
 returns-then-bytes-size c =
     put_short _ _ _ (c.wide-size.ensures ∙ c.requires.rest_value) c.requires.bytes_value c.if-bytes-size.true
 
-pub pack_tree-requires : goal.pack_tree-requires
-pack_tree-requires c =
-    record {
-      node_stands = c.requires.node_stands;
-      rest_in_bounds = omega (arith, c.if-bytes-size.false, c.wide-size.ensures, c.requires.rest_value);
-    }
-
 pub returns : goal.returns
 returns c =
     put_fits _ _ _ (c.wide-size.ensures ∙ c.requires.rest_value) c.requires.bytes_value c.if-bytes-size.false _ c.pack_tree.ensures

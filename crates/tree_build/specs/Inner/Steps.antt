@@ -1,21 +1,20 @@
 -- What is left to build, step by step, in a room for the bytes that is zero.
-use Rattle.std.specs.Prelude.{cond, List, ℕ, ◌*◌, length, replicate, leb}
+use Rattle.std.specs.Prelude.{Ok, Err, Some, cond, List, ℕ, ◌*◌, length, replicate, leb}
 use Rattle.answers.specs.declared.Refusal.TheVariants.{NoRoom}
 use Rattle.room.specs.Room.{pad}
 use Rattle.tree.specs.Tree.{Tree, packed, nodes}
-use Rattle.tree_build.specs.declared.TreeBuilt.{TreeBuilt}
-use Rattle.tree_build.specs.declared.TreeBuilt.TheVariants.{Packed, TreeRefused}
+use Rattle.tree_build.specs.Build.{TreeBuilt}
 
 -- the answer and the bytes
 abbrev pub Bytes : Type 0
 Bytes = TreeBuilt × List ℕ
 
 abbrev pub short : ℕ → Bytes
-short room = (TreeRefused NoRoom, replicate room 0)
+short room = (Err NoRoom, replicate room 0)
 
 -- bytes put where there is room for so many
 unfoldable pub put : List ℕ → ℕ → Bytes
-put bytes room = cond (leb (length bytes) room) (Packed (length bytes), pad room bytes) (short room)
+put bytes room = cond (leb (length bytes) room) (Ok (Some (length bytes)), pad room bytes) (short room)
 
 -- a tree whose records have room for so many numbers
 unfoldable pub put_grown : Tree → ℕ → ℕ → Bytes

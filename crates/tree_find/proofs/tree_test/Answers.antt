@@ -1,37 +1,28 @@
-use Rattle.tree_find.proofs.Answers.{tested_faulty, tested_unfit, tested_sound}
-use Rattle.rings.proofs.Checks.{sound_ring}
-use mathlib.Core.Bool.{Bool, ◌&&◌}
-use mathlib.Core.Path.{sym, ap₂, ◌∙◌}
+use mathlib.Core.Path.{sym}
 use native.Mathlib.Omega.{arith}
-use borrow.Author.Rules.{rules}
+use Rattle.answers.proofs.Refused.{refused}
+use Rattle.rings.proofs.Checks.{Accepted, sound_ring}
+use Rattle.tree_find.specs.Find.{tree_tested_by}
 use Rattle.tree_find.proofs.tree_test.Goals as goal
+use Rattle.tree_find.proofs.tree_test.Goals.{In_ok-check_ring}
 
-pub check_ring-requires : goal.check_ring-requires
-check_ring-requires c = search rules
+sound : (c : In_ok-check_ring) → Accepted c.args.coords.now c.args.points
+sound c = sound_ring c.args.coords.now c.args.points (sym c.in_ok-check_ring.ensures)
 
-pub enum_known-why : goal.enum_known-why
-enum_known-why c = search rules
-
-pub enum_told-1 : goal.enum_told-1
-enum_told-1 c = search rules
-
-pub is_finite-requires : goal.is_finite-requires
-is_finite-requires c = search rules
-
-pub is_finite-requires-in-Sound : goal.is_finite-requires-in-Sound
-is_finite-requires-in-Sound c = search rules
+pub returns-in_err-check_ring : goal.returns-in_err-check_ring
+unfolding tree_tested_by
+returns-in_err-check_ring c = rw (refused c.from_residual.result c.from_residual.ensures.1, sym c.in_err-check_ring.ensures)
 
 pub of_ring-requires : goal.of_ring-requires
-of_ring-requires c = let a = sound_ring _ _ (sym c.check_ring.ensures ∙ c.in-Sound.is) in (omega (arith, a.enough), omega (arith, a.sizes))
+of_ring-requires c = let s = sound (goal.at.of_ring-requires c).In_ok-check_ring in (omega (arith, s.enough), omega (arith, s.sizes))
 
 pub test_in-requires : goal.test_in-requires
-test_in-requires c = let a = sound_ring _ _ (sym c.check_ring.ensures ∙ c.in-Sound.is) in rw c.of_ring.ensures (omega (arith, a.sizes, a.enough), omega (arith, a.few))
+test_in-requires c = let s = sound (goal.at.test_in-requires c).In_ok-check_ring in rw c.of_ring.ensures (omega (arith, s.sizes, s.enough), omega (arith, s.few))
 
 pub returns-then-is_finite : goal.returns-then-is_finite
-returns-then-is_finite c = (rw c.of_ring.ensures at c.test_in.ensures) ∙ tested_sound _ _ _ _ _ _ (sym c.check_ring.ensures ∙ c.in-Sound.is) (sym (ap₂ (λ (a b : Bool). a && b) c.is_finite.ensures c.is_finite-in-Sound.ensures) ∙ c.if-is_finite.true)
+unfolding tree_tested_by
+returns-then-is_finite c = rw (sym c.in_ok-check_ring.ensures, ← c.is_finite.ensures, ← c.is_finite-2.ensures, c.if-is_finite.true) (rw c.of_ring.ensures at c.test_in.ensures)
 
-pub returns-in-Faulty : goal.returns-in-Faulty
-returns-in-Faulty c = tested_faulty _ _ _ _ _ _ _ (sym c.check_ring.ensures ∙ c.in-Faulty.is)
-
-pub returns-else-is_finite : goal.returns-else-is_finite
-returns-else-is_finite c = tested_unfit _ _ _ _ _ _ (sym c.check_ring.ensures ∙ c.in-Sound.is) (sym (ap₂ (λ (a b : Bool). a && b) c.is_finite.ensures c.is_finite-in-Sound.ensures) ∙ c.if-is_finite.false)
+pub returns : goal.returns
+unfolding tree_tested_by
+returns c = rw (sym c.in_ok-check_ring.ensures, ← c.is_finite.ensures, ← c.is_finite-2.ensures, c.if-is_finite.false)

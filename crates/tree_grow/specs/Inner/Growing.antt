@@ -1,15 +1,19 @@
 -- What each growing function answers, and what it leaves in the room.
-use Rattle.std.specs.Prelude.{ℕ, zero, suc, ◌+◌, ◌-◌, ◌*◌, ◌≤◌, ◌<◌, ◌≡◌, List, [], ◌++◌, length, take, drop, Float}
+use Rattle.std.specs.Prelude.{Option, Some, None, ℕ, zero, suc, ◌+◌, ◌-◌, ◌*◌, ◌≤◌, ◌<◌, ◌≡◌, List, [], ◌++◌, length, take, drop, Float}
 use Rattle.boxes.specs.declared.Rect.{Rect}
 use Rattle.boxes.specs.Quads.{quad_bounds}
 use Rattle.varint.specs.Leb128.{encode}
 use Rattle.tree.specs.Tree.{Tree, unless_empty, grown, packed, nodes, in_order}
 use Rattle.tree_part.specs.declared.Shares.{Shares}
-use Rattle.tree_grow.specs.declared.Growth.{Growth}
-use Rattle.tree_grow.specs.declared.Growth.TheVariants.{Stands, Cramped}
-use Rattle.tree_grow.specs.declared.Grown.{Grown}
-use Rattle.tree_grow.specs.declared.Grown.TheVariants.{Nodes, Full}
 use Rattle.tree_grow.specs.Inner.Records.{records}
+
+-- how trees that stand side by side came out: their nodes and their bytes, or that their records do not fit
+abbrev pub Growth : Type 0
+Growth = Option (ℕ × ℕ)
+
+-- how a whole tree came out: its nodes, or that their records do not fit
+abbrev pub Grown : Type 0
+Grown = Option ℕ
 
 -- what trees that stand side by side come to: nodes, bytes, segments in node order, records
 pub record Crop : Type 0 where
@@ -73,8 +77,8 @@ pub record Stood (c : Crop) (rest : List ℕ) (n size : ℕ) (run' rest' : List 
 
 -- Where the records do not fit, nothing is said of what is left: the caller zeroes it.
 abbrev pub CameOut : Crop → List ℕ → Growth → List ℕ → List ℕ → Type 0
-CameOut c rest (Stands n size) run' rest' = Stood c rest n size run' rest'
-CameOut c rest Cramped run' rest' = length rest < 6 * c.count
+CameOut c rest (Some (n, size)) run' rest' = Stood c rest n size run' rest'
+CameOut c rest None run' rest' = length rest < 6 * c.count
 
 pub record Grew (c : Crop) (rest : List ℕ) (r : Growth) (run' rest' : List ℕ) : Type 0 where
   pub out : CameOut c rest r run' rest'
@@ -87,5 +91,5 @@ pub record Rooted (t : Tree) (rest : List ℕ) (n : ℕ) (run' rest' : List ℕ)
   pub fits : 6 * nodes t ≤ length rest
 
 abbrev pub TreeGrew : Tree → List ℕ → Grown → List ℕ → List ℕ → Type 0
-TreeGrew t rest (Nodes n) run' rest' = Rooted t rest n run' rest'
-TreeGrew t rest Full run' rest' = length rest < 6 * nodes t
+TreeGrew t rest (Some n) run' rest' = Rooted t rest n run' rest'
+TreeGrew t rest None run' rest' = length rest < 6 * nodes t

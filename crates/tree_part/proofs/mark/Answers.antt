@@ -4,15 +4,7 @@ use Prim.Native.Nat.{ℕ, ◌+◌, ◌*◌}
 use Rattle.boxes.specs.Quads.{chosen}
 use Rattle.boxes.specs.Segments.{rect_of}
 use Rattle.tree_part.specs.Inner.Halves.{class_of_of, marked}
-use Rattle.tree_part.proofs.Classes.{class_small}
-use native.Mathlib.Omega.{arith}
 use Rattle.tree_part.proofs.mark.Goals as goal
-
-pub overflow_mul-result : goal.overflow_mul-result
-overflow_mul-result c = omega (arith, c.class_of.ensures, class_small c.choose_quad.result)
-
-pub overflow_add-result : goal.overflow_add-result
-overflow_add-result c = omega (arith, c.class_of.ensures, class_small c.choose_quad.result)
 
 pub returns : goal.returns
 unfolding marked

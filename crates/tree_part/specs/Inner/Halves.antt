@@ -1,21 +1,19 @@
 -- How a run is shared out without more room. A segment number is below 4,096, and a number of the room has 32 bits. So its lower half holds the
 -- segment that arrived there, marked with its class, while the upper half takes the segment that is to stand there.
-use Rattle.std.specs.Prelude.{ℕ, zero, suc, ◌+◌, ◌*◌, ◌/◌, ◌%◌, ◌≡◌, List, [], ◌∷◌, ◌++◌, map, length, eqb, Float}
+use Rattle.std.specs.Prelude.{Option, Some, None, ℕ, zero, suc, ◌+◌, ◌*◌, ◌/◌, ◌%◌, ◌≡◌, List, [], ◌∷◌, ◌++◌, map, length, eqb, Float}
 use Rattle.boxes.specs.declared.Rect.{Rect}
-use Rattle.boxes.specs.declared.Chosen.{Chosen}
-use Rattle.boxes.specs.declared.Chosen.TheVariants.{Quadrant, Stays}
 use Rattle.room.specs.Numbers.{cons_if}
 use Rattle.room.specs.Room.{write}
 use Rattle.tree.specs.Tree.{choice}
 use Rattle.tree_part.specs.declared.Shares.{Shares}
 
 -- the classes in the order of their places: 0 stays, q + 1 goes to quadrant q
-abbrev pub class_of_of : Chosen → ℕ
-class_of_of Stays = 0
-class_of_of (Quadrant zero) = 1
-class_of_of (Quadrant (suc zero)) = 2
-class_of_of (Quadrant (suc (suc zero))) = 3
-class_of_of (Quadrant (suc (suc (suc q)))) = 4
+abbrev pub class_of_of : Option ℕ → ℕ
+class_of_of None = 0
+class_of_of (Some zero) = 1
+class_of_of (Some (suc zero)) = 2
+class_of_of (Some (suc (suc zero))) = 3
+class_of_of (Some (suc (suc (suc q)))) = 4
 
 -- segment i, marked
 unfoldable pub marked : (ℕ → Float) → Rect → ℕ → ℕ

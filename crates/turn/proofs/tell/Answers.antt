@@ -1,16 +1,12 @@
-use mathlib.Core.Path.{sym, ◌∙◌}
-use Rattle.turn.specs.Inner.Halves.{value_of}
-use Rattle.turn.proofs.Sign.{turn_of_lem}
+use mathlib.Core.Path.{sym, ap, ◌∙◌}
+use Rattle.turn.proofs.Compare.{told, turn_of_halves}
 use Rattle.turn.proofs.tell.Goals as goal
 
-pub returns-then-above : goal.returns-then-above
-returns-then-above c = let a = c.args in
-    rw (turn_of_lem (value_of a.plus) (value_of a.minus), sym c.above.ensures ∙ c.if-above.true)
+pub returns-in-Greater : goal.returns-in-Greater
+returns-in-Greater c = sym (turn_of_halves _ _ c.requires.0 c.requires.1 ∙ ap told (sym c.cmp.ensures ∙ c.in-Greater.is))
 
-pub returns-then-above-2 : goal.returns-then-above-2
-returns-then-above-2 c = let first = c in let a = first.args in
-    rw (turn_of_lem (value_of a.plus) (value_of a.minus), sym first.above.ensures ∙ first.if-above.false, sym c.above-2.ensures ∙ c.if-above-2.true)
+pub returns-in-Less : goal.returns-in-Less
+returns-in-Less c = sym (turn_of_halves _ _ c.requires.0 c.requires.1 ∙ ap told (sym c.cmp.ensures ∙ c.in-Less.is))
 
-pub returns-else-above-2 : goal.returns-else-above-2
-returns-else-above-2 c = let first = c in let a = first.args in
-    rw (turn_of_lem (value_of a.plus) (value_of a.minus), sym first.above.ensures ∙ first.if-above.false, sym c.above-2.ensures ∙ c.if-above-2.false)
+pub returns-in-Equal : goal.returns-in-Equal
+returns-in-Equal c = sym (turn_of_halves _ _ c.requires.0 c.requires.1 ∙ ap told (sym c.cmp.ensures ∙ c.in-Equal.is))

@@ -1,14 +1,18 @@
 -- How the area is summed: over coordinates raised by 2^31, which are not below 0, and in two halves of 32 bits, so that no sum wraps.
 -- For functions of this crate alone; proofs/Area.antt ties it to the doubled area.
-use Rattle.std.specs.Prelude.{ℕ, ◌+◌, ◌*◌, ◌^◌, List, get_or, ℤ, pos, ◌+ℤ◌, ◌*ℤ◌}
+use Rattle.std.specs.Prelude.{ℕ, ◌+◌, ◌*◌, ◌^◌, ℤ, pos, ◌+ℤ◌, ◌*ℤ◌}
+use Rattle.boxes.specs.declared.Segment.{Segment}
 use Rattle.turn.specs.declared.Halves.{Halves}
 
 abbrev pub raised : ℤ → ℤ
 raised z = z +ℤ pos (2 ^ 31)
 
--- the raised coordinates at i * 2 + f and i * 2 + g, multiplied
-abbrev pub product : List ℤ → ℕ → ℕ → ℕ → ℤ
-product ring f g i = raised (get_or ring (i * 2 + f) (pos 0)) *ℤ raised (get_or ring (i * 2 + g) (pos 0))
+-- the two products of a segment's part, ax by and bx ay, of raised coordinates
+abbrev pub plus_of : Segment → ℤ
+plus_of s = raised s.a.x *ℤ raised s.b.y
+
+abbrev pub minus_of : Segment → ℤ
+minus_of s = raised s.b.x *ℤ raised s.a.y
 
 -- the number that two halves stand for
 abbrev pub value_of : Halves → ℕ

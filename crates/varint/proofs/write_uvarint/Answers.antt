@@ -1,6 +1,6 @@
 -- `varint::write_uvarint` meets its contract. The loop's invariant: what is left, written here, gives the room that the
 -- whole number written at its place gives, and ends where that ends.
-use mathlib.Core.Path.{refl, sym, ap, ◌∙◌}
+use mathlib.Core.Path.{sym, ap, ◌∙◌}
 use mathlib.Core.List.{List}
 use Prim.Native.Nat.{ℕ}
 use lib.ListN.{length, length-set}
@@ -9,14 +9,8 @@ use Rattle.room.specs.Room.{write}
 use Rattle.varint.proofs.Leb128.{encode_last, encode_more, encode_some}
 use Rattle.varint.proofs.write_uvarint.Goals as goal
 
-pub loop-rest-init : goal.loop-rest-init
-loop-rest-init c = (refl, refl, refl)
-
 pub bounds-out-p : goal.bounds-out-p
 bounds-out-p c = omega (arith, encode_some c.loop-rest.rest)
-
-pub overflow_add-p : goal.overflow_add-p
-overflow_add-p c = omega (arith, encode_some c.loop-rest.rest)
 
 pub loop-rest-preserved : goal.loop-rest-preserved
 unfolding write
@@ -29,12 +23,6 @@ loop-rest-preserved c = let l = c.loop-rest in
 
 pub bounds-out-p-2 : goal.bounds-out-p-2
 bounds-out-p-2 c = omega (arith, encode_some c.loop-rest.rest)
-
-pub overflow_add-result : goal.overflow_add-result
-overflow_add-result c = omega (arith, encode_some c.loop-rest.rest)
-
-pub shape_of-out : goal.shape_of-out
-shape_of-out c = simp length-set c.loop-rest.invariant.2
 
 pub returns : goal.returns
 unfolding write

@@ -1,36 +1,23 @@
 use mathlib.Core.Path.{sym, ◌∙◌}
+use Rattle.std.proofs.lemmas.Result.{err_from_is_err_and}
 use Rattle.wkb_shape.proofs.Begins.{order_within, type_within, header_unordered, header_stopped, header_counted}
 use Rattle.wkb_shape.proofs.header_at.Goals as goal
 
-pub past_type-typed-requires : goal.past_type-typed-requires
-past_type-typed-requires c =
-    let b = c in
-    let a = b.args in
-    order_within a.bytes.now a.at _ _ (sym b.order_at-ordered.ensures ∙ c.in-As.is)
+pub invariant_of-reader : goal.invariant_of-reader
+invariant_of-reader c = record { within = order_within c.args.bytes.now c.args.at _ _ (sym c.in_ok-order.ensures) }
 
-pub count_at-requires : goal.count_at-requires
-count_at-requires c =
-    let b = c in
-    let a = b.args in
-    (type_within a.bytes.now _ _ _ (sym b.past_type-typed.ensures ∙ c.in-Past.is)).0
+pub invariant_of-reader-2 : goal.invariant_of-reader-2
+invariant_of-reader-2 c = record { within = (type_within c.args.bytes.now _ _ _ (sym c.in_ok-reader.ensures)).0 }
 
-pub returns-in-Unordered : goal.returns-in-Unordered
-returns-in-Unordered c =
-    let b = c in
-    let a = b.args in
-    header_unordered a.bytes.now a.at _ (sym b.order_at-ordered.ensures ∙ c.in-Unordered.is)
+pub returns-in_err-order : goal.returns-in_err-order
+returns-in_err-order c =
+    let p = err_from_is_err_and c.from_residual.result c.from_residual.ensures.1 in
+    rw (p.1, p.2) (header_unordered c.args.bytes.now c.args.at _ (sym c.in_err-order.ensures))
 
-pub returns-in-Stopped : goal.returns-in-Stopped
-returns-in-Stopped c =
-    let b = c in
-    let d = b in
-    let a = d.args in
-    header_stopped a.bytes.now a.at _ _ _ (sym d.order_at-ordered.ensures ∙ d.in-As.is) (sym b.past_type-typed.ensures ∙ c.in-Stopped.is)
+pub returns-in_err-reader : goal.returns-in_err-reader
+returns-in_err-reader c =
+    let p = err_from_is_err_and c.from_residual-in_err-reader.result c.from_residual-in_err-reader.ensures.1 in
+    rw (p.1, p.2) (header_stopped c.args.bytes.now c.args.at _ _ _ (sym c.in_ok-order.ensures) (sym c.in_err-reader.ensures))
 
-pub returns-in-Past : goal.returns-in-Past
-returns-in-Past c =
-    let b = c in
-    let d = b in
-    let a = d.args in
-    c.count_at.ensures
-    ∙ header_counted a.bytes.now a.at _ _ _ (sym d.order_at-ordered.ensures ∙ d.in-As.is) (sym b.past_type-typed.ensures ∙ c.in-Past.is)
+pub returns : goal.returns
+returns c = c.count.ensures ∙ header_counted c.args.bytes.now c.args.at _ _ _ (sym c.in_ok-order.ensures) (sym c.in_ok-reader.ensures)

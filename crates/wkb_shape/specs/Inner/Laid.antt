@@ -1,22 +1,36 @@
 -- How a polygon lies in its bytes, as passes over them go: where reading ends, told without what is read; and what stands at a place, whether or not
 -- reading gets there. `rings_laid` of proofs/Laid.antt ties both to the definition of reading.
-use Rattle.std.specs.Prelude.{ℕ, zero, suc, ◌+◌, ◌*◌, ◌≡◌, List, [], ◌∷◌, length}
+use Rattle.std.specs.Prelude.{Result, Ok, Err, ℕ, zero, suc, ◌+◌, ◌*◌, ◌≡◌, List, [], ◌∷◌, length}
 use Rattle.wkb_fields.specs.declared.ByteOrder.{ByteOrder}
 use Rattle.wkb_fields.specs.Fields.{field_of}
-use Rattle.wkb_shape.specs.declared.Walked.{Walked}
-use Rattle.wkb_shape.specs.declared.Walked.TheVariants.{Past, Stopped}
-use Rattle.wkb_shape.specs.declared.Ordered.{Ordered}
-use Rattle.wkb_shape.specs.declared.Ordered.TheVariants.{As, Unordered}
-use Rattle.wkb_shape.specs.declared.Header.{Header}
-use Rattle.wkb_shape.specs.declared.Header.TheVariants.{Of, Unheaded}
-use Rattle.wkb_shape.specs.declared.Shaped.{Shaped}
-use Rattle.wkb_shape.specs.declared.Shaped.TheVariants.{Rings, Unshaped}
+use Rattle.wkb_shape.specs.declared.WkbRefusal.{WkbRefusal}
 use Rattle.wkb_shape.specs.Wkb.{Ring, Shape, Got, got, stop, rings}
+
+-- Where a pass over fields ends.
+abbrev pub Walked : Type 0
+Walked = Result ℕ WkbRefusal
+
+-- The byte order, and the place behind it.
+abbrev pub Ordered : Type 0
+Ordered = Result (ByteOrder × ℕ) WkbRefusal
+
+-- What a polygon begins with: its byte order and its ring count; and the place behind that.
+abbrev pub Header : Type 0
+Header = Result (ByteOrder × ℕ × ℕ) WkbRefusal
+
+-- What the bytes are: a polygon of so many rings, or not.
+abbrev pub Shaped : Type 0
+Shaped = Result (ByteOrder × ℕ) WkbRefusal
+
+-- what reading gives, without the place
+unfoldable pub value_of : {A : Type 0} → Got A → Result A WkbRefusal
+value_of (got x next) = Ok x
+value_of (stop why) = Err why
 
 -- where reading ends
 unfoldable pub end_of : {A : Type 0} → Got A → Walked
-end_of (got x next) = Past next
-end_of (stop why) = Stopped why
+end_of (got x next) = Ok next
+end_of (stop why) = Err why
 
 module _ (bytes : List ℕ) where
   module _ (order : ByteOrder) where
@@ -39,17 +53,17 @@ module _ (bytes : List ℕ) where
 
 -- the bytes are, from byte 9 on, n rings and nothing more
 abbrev pub Whole : List ℕ → ByteOrder → ℕ → Type 0
-Whole bytes order n = end_of (rings bytes order n 9) ≡ Past (length bytes)
+Whole bytes order n = end_of (rings bytes order n 9) ≡ Ok (length bytes)
 
 -- What the pass over all bytes tells: the byte order and how many rings there are.
 unfoldable pub order_told : Got ByteOrder → Ordered
-order_told (got order next) = As order next
-order_told (stop why) = Unordered why
+order_told (got order next) = Ok (order, next)
+order_told (stop why) = Err why
 
 unfoldable pub header_told : Got (ByteOrder × ℕ) → Header
-header_told (got (order, n) next) = Of order n next
-header_told (stop why) = Unheaded why
+header_told (got (order, n) next) = Ok (order, n, next)
+header_told (stop why) = Err why
 
 unfoldable pub shape_told : Got (ByteOrder × Shape) → Shaped
-shape_told (got (order, shape) end) = Rings order (length shape)
-shape_told (stop why) = Unshaped why
+shape_told (got (order, shape) end) = Ok (order, length shape)
+shape_told (stop why) = Err why

@@ -8,8 +8,8 @@ returns-then-zeroes_rooms c =
     refused_zero a.why a.span.now a.stats.now
     (sym c.zeroes_rooms.ensures ∙ c.if-zeroes_rooms.true)
     c.tell_refusal.ensures
-    c.zero_fill_f64.ensures
-    c.zero_fill_u64.ensures
+    c.zero_rooms.ensures.spans
+    c.zero_rooms.ensures.statistics
 
 pub returns : goal.returns
 returns c =

@@ -1,31 +1,25 @@
-use lib.ListN.{length}
-use Rattle.capi.proofs.Striped.{span_enough, stats_enough, striped_fits, striped_short}
-use borrow.Author.Rules.{rules}
+use Rattle.capi.proofs.Striped.{striped_fits, striped_short}
 use Rattle.capi.proofs.build_stripes.tell_striped.Goals as goal
-
-pub put_span-requires : goal.put_span-requires
-put_span-requires c = let a = c.args in search (rules, span_enough (length a.span.now) (length a.stats.now) c.if-span-stats.true)
-
-pub put_stats-requires : goal.put_stats-requires
-put_stats-requires c =
-    let a = c.args in
-    search (rules, stats_enough (length a.span.now) (length a.stats.now) c.if-span-stats.true)
 
 pub returns-then-span-stats : goal.returns-then-span-stats
 returns-then-span-stats c =
     let a = c.args in
-    striped_fits a.least a.height a.told a.stripes.now a.list.now a.span.now a.stats.now
-    c.if-span-stats.true
-    c.put_span.ensures
-    c.put_stats.ensures
+    let s = c.zero_rooms.auto.span in
+    let t = c.zero_rooms.auto.stats in
+    striped_fits a.built.least a.built.height a.built.stats a.stripes.now a.list.now a.span.now a.stats.now
+    (rw (s, t) at c.if-span-stats.true)
+    (rw s at c.put_span.ensures)
+    (rw t at c.put_stats.ensures)
 
 pub returns : goal.returns
 returns c =
     let a = c.args in
-    striped_short a.least a.height a.told a.stripes.now a.list.now a.span.now a.stats.now
-    c.if-span-stats.false
+    let s = c.zero_rooms.auto.span in
+    let t = c.zero_rooms.auto.stats in
+    striped_short a.built.least a.built.height a.built.stats a.stripes.now a.list.now a.span.now a.stats.now
+    (rw (s, t) at c.if-span-stats.false)
     c.tell_refusal.ensures
-    c.zero_fill_u32.ensures
-    c.zero_fill_u32-2.ensures
-    c.zero_fill_f64.ensures
-    c.zero_fill_u64.ensures
+    (c.fill.ensures.after (λ _ e. e))
+    (c.fill-2.ensures.after (λ _ e. e))
+    c.zero_rooms.ensures.spans
+    c.zero_rooms.ensures.statistics

@@ -1,23 +1,15 @@
-use native.Mathlib.Nat.{add-zero}
+-- `tree::QuadTree::of_ring` meets its contract: the picks of the lesser are the least, and those of the greater the greatest.
+use Rattle.std.proofs.Common.{rules, add-zero}
+use Rattle.floats.specs.Values.{lesser_of, greater_of}
 use Rattle.tree.specs.Tree.{ring_box}
-use borrow.Author.Rules.{rules}
+use Rattle.tree.proofs.Extremes.{picked_least, picked_greatest}
 use Rattle.tree.proofs.QuadTree.of_ring.Goals as goal
-
-pub overflow_sub-last : goal.overflow_sub-last
-overflow_sub-last c = search rules
-
-pub least_of-requires : goal.least_of-requires
-least_of-requires c = search rules
-
-pub least_of-requires-2 : goal.least_of-requires-2
-least_of-requires-2 c = search rules
-
-pub greatest_of-requires : goal.greatest_of-requires
-greatest_of-requires c = search rules
-
-pub greatest_of-requires-2 : goal.greatest_of-requires-2
-greatest_of-requires-2 c = search rules
 
 pub returns : goal.returns
 unfolding ring_box
-returns c = simp (c.greatest_of-2.ensures, c.greatest_of.ensures, c.least_of-2.ensures, c.least_of.ensures, add-zero)
+returns c =
+    let x0 = c.pick_of.ensures lesser_of (λ a b r h. search rules) in
+    let y0 = c.pick_of-2.ensures lesser_of (λ a b r h. search rules) in
+    let x1 = c.pick_of-3.ensures greater_of (λ a b r h. search rules) in
+    let y1 = c.pick_of-4.ensures greater_of (λ a b r h. search rules) in
+    simp (x0, y0, x1, y1, picked_least, picked_greatest, add-zero)
