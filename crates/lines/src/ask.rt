@@ -15,7 +15,7 @@ fn input() -> [u8; 1048576]
 }
 
 // Asks `answer` of each line of the input. It is given the line's word and its fields, and prints the answer; where it
-// says false, it has printed nothing, and the line is no question.
+// says false, it has printed nothing, and the line is no question. For the programs above, whose `answer` may be called with any line.
 pub fn answer_all<R: Read, F: Fn(&[u8], Fields) -> io::Result<bool>>(
     rt: &impl Print,
     from: &mut R,

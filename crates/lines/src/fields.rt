@@ -119,6 +119,6 @@ impl<'a> Fields<'a> {
 
     // That the line ends here.
     pub fn end(self) -> Option<()> {
-        if self.rest.is_empty() { Some(()) } else { None }
+        self.rest.is_empty().then_some(())
     }
 }

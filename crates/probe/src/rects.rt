@@ -167,10 +167,7 @@ pub extern "C" fn probe_choose_quad(
 ) -> usize
     ensures { result ≡ chosen_number (chosen (box x0 y0 x1 y1) (box u0 v0 u1 v1)) }
 {
-    match choose_quad(rect_of(x0, y0, x1, y1), rect_of(u0, v0, u1, v1)) {
-        Some(q) => q,
-        None => 4,
-    }
+    choose_quad(rect_of(x0, y0, x1, y1), rect_of(u0, v0, u1, v1)).unwrap_or(4)
 }
 
 #[unsafe(no_mangle)]
