@@ -23,8 +23,8 @@
  *
  * What a host owes: the default floating-point environment of IEEE 754 (round to nearest, subnormal numbers kept). A program
  * that is linked with -ffast-math or -Ofast may have subnormal numbers flushed to zero from its start on, and then answers in
- * Float mode can be wrong. value is never NULL; each call writes it. A call needs at most about 120 KB of stack (measured: 118 KB for
- * a tree's build down to depth 64 by the last quadrant each time, 20 KB for its search).
+ * Float mode can be wrong. value is never NULL; each call writes it. A call needs at most about 90 KB of stack (measured: 81 KB for a
+ * tree's build down to depth 64 by the last quadrant each time, 24 KB for its search).
  *
  * A slice goes over as its pointer and its length, in numbers of its type and not in bytes. With length 0
  * the pointer is not followed. Slices that a call writes must not overlap any other.

@@ -1,3 +1,4 @@
 pub mod Refused
 pub mod Unique
 pub mod Withdrawn
+pub mod Said

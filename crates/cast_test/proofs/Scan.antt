@@ -1,5 +1,6 @@
 -- The ring test by scan, one segment at a time, and the ways through it. Assumes nothing.
-use Rattle.std.specs.Prelude.{Ok, Some, None}
+use Rattle.std.specs.Prelude.{Ok}
+use Rattle.std.specs.declared.ops.ControlFlow.TheVariants.{Continue, Break}
 use mathlib.Core.Path.{◌≡◌, sym, ap, ◌∙◌}
 use mathlib.Core.Bool.{Bool, true, false, ◌&&◌}
 use Prim.Native.Nat.{ℕ, ◌+◌, ◌≤◌, ◌<◌}
@@ -20,7 +21,7 @@ module _ (ring : ℕ → Float) (n : ℕ) (p : Point) (edge : Bool) where
   abbrev pub Scanning : Seen → ℕ → Type 0
   Scanning s i = settled ring p edge s (up_to (λ i. holds_height (side_at ring i) p.y) n i) ≡ scan_of ring n p edge
 
-  pub scanning_start : Scanning (Some false) 0
+  pub scanning_start : Scanning (Continue false) 0
   scanning_start = settled_none ring p edge _
 
   pub scanning_more : (s : Seen) (i : ℕ) → i < n → Scanning s i → Scanning (step_of ring i p s) (i + 1)
@@ -30,13 +31,13 @@ module _ (ring : ℕ → Float) (n : ℕ) (p : Point) (edge : Bool) where
       ∙ e
 
   -- "on" ends it
-  pub scanning_on : (i : ℕ) → Scanning None i → edge ≡ scan_of ring n p edge
-  scanning_on i e = sym (settled_on ring p edge _) ∙ e
+  pub scanning_on : (inside : Bool) (i : ℕ) → Scanning (Break inside) i → edge ≡ scan_of ring n p edge
+  scanning_on inside i e = sym (settled_on ring p edge inside _) ∙ e
 
-  pub scanning_done : (inside : Bool) (i : ℕ) → n ≤ i → Scanning (Some inside) i → inside ≡ scan_of ring n p edge
+  pub scanning_done : (inside : Bool) (i : ℕ) → n ≤ i → Scanning (Continue inside) i → inside ≡ scan_of ring n p edge
   scanning_done inside i h e =
       sym (settled_done ring p edge inside)
-      ∙ sym (ap (settled ring p edge (Some inside)) (up_to_done (λ i. holds_height (side_at ring i) p.y) n i h))
+      ∙ sym (ap (settled ring p edge (Continue inside)) (up_to_done (λ i. holds_height (side_at ring i) p.y) n i h))
       ∙ e
 
 -- all segments of a ring

@@ -1,5 +1,5 @@
 -- The ring test in one pass: what is seen so far and the segments to come make the answer. Assumes nothing.
-use Rattle.std.specs.Prelude.{Some, None}
+use Rattle.std.specs.declared.ops.ControlFlow.TheVariants.{Continue, Break}
 use mathlib.Core.Path.{◌≡◌, refl}
 use mathlib.Core.Bool.{Bool, true, false, not, cond}
 use mathlib.Core.List.{List, []}
@@ -17,8 +17,8 @@ use Rattle.cast_test.specs.Inner.Steps.{Seen, seen_next, step_of}
 module _ (ring : ℕ → Float) (p : Point) (edge : Bool) where
   -- the answer, from what is seen so far, and the numbers found to come
   unfoldable pub settled : Seen → List ℕ → Bool
-  settled None xs = edge
-  settled (Some inside) xs = test_from (λ i. is_on (cast_at ring i p)) (λ i. is_inside (cast_at ring i p)) edge inside xs
+  settled (Break _) xs = edge
+  settled (Continue inside) xs = test_from (λ i. is_on (cast_at ring i p)) (λ i. is_inside (cast_at ring i p)) edge inside xs
 
   by_cast : (r : RaycastResult) (b : Bool) (xs : List ℕ)
       → cond (is_on r) edge (test_from (λ i. is_on (cast_at ring i p)) (λ i. is_inside (cast_at ring i p)) edge (cond (is_inside r) (not b) b) xs)
@@ -30,22 +30,22 @@ module _ (ring : ℕ → Float) (p : Point) (edge : Bool) where
 
   pub settled_step : (s : Seen) (i : ℕ) (xs : List ℕ) → settled s (cons_if (holds_height (side_at ring i) p.y) i xs) ≡ settled (step_of ring i p s) xs
   unfolding settled step_of test_from
-  settled_step None i xs = refl
-  settled_step (Some inside) i xs = go (holds_height (side_at ring i) p.y)
+  settled_step (Break inside) i xs = refl
+  settled_step (Continue inside) i xs = go (holds_height (side_at ring i) p.y)
     where
-      go : (h : Bool) → settled (Some inside) (cons_if h i xs) ≡ settled (cond h (seen_next (cast_at ring i p) inside) (Some inside)) xs
+      go : (h : Bool) → settled (Continue inside) (cons_if h i xs) ≡ settled (cond h (seen_next (cast_at ring i p) inside) (Continue inside)) xs
       go false = refl
       go true = by_cast (cast_at ring i p) inside xs
 
-  pub settled_on : (xs : List ℕ) → settled None xs ≡ edge
+  pub settled_on : (inside : Bool) (xs : List ℕ) → settled (Break inside) xs ≡ edge
   unfolding settled
-  settled_on xs = refl
+  settled_on inside xs = refl
 
-  pub settled_done : (inside : Bool) → settled (Some inside) [] ≡ inside
+  pub settled_done : (inside : Bool) → settled (Continue inside) [] ≡ inside
   unfolding settled test_from
   settled_done inside = refl
 
   -- at the start nothing is seen
-  pub settled_none : (xs : List ℕ) → settled (Some false) xs ≡ test_of ring p edge xs
+  pub settled_none : (xs : List ℕ) → settled (Continue false) xs ≡ test_of ring p edge xs
   unfolding settled
   settled_none xs = refl

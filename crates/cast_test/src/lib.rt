@@ -12,6 +12,7 @@ use boxes::Point;
 use floats::is_finite;
 use rays::{RaycastResult, cast};
 use rings::{check_ring, holds_height};
+use std::ops::ControlFlow;
 
 // What `raycast` says of segment i. For the crates above, which have checked the ring.
 #[tactic(auto, unfolding(rays::specs::Raycast::raycast_of))]
@@ -26,20 +27,27 @@ pub fn cast_at(ring: &[i32], i: usize, p: Point) -> RaycastResult
     cast(ax, ay, bx, by, p.x, p.y)
 }
 
-// What segment i makes of what is known so far: `None` once the point is on a segment, and else the answer. For the
-// crates above, which have checked the ring.
+// What segment i makes of what is known so far: how the answer stands by the segments before, broken off once the point is on
+// one of them. For the crates above, which have checked the ring.
 #[tactic(auto, unfolding(crate::specs::Inner::Steps::step_of))]
-pub fn step(ring: &[i32], i: usize, p: Point, seen: Option<bool>) -> Option<bool>
+pub fn step(
+    ring: &[i32],
+    i: usize,
+    p: Point,
+    seen: ControlFlow<bool, bool>,
+) -> ControlFlow<bool, bool>
     requires { i * 2 + 3 < length ring.now }
     ensures { result ≡ step_of (wide ring.now) i p seen }
 {
-    let inside = seen?;
+    let ControlFlow::Continue(inside) = seen else {
+        return seen;
+    };
     if !holds_height(ring, i, p.y) {
         return seen;
     }
     match cast_at(ring, i, p) {
-        RaycastResult::On => None,
-        RaycastResult::Inside => Some(!inside),
+        RaycastResult::On => ControlFlow::Break(inside),
+        RaycastResult::Inside => ControlFlow::Continue(!inside),
         RaycastResult::Neither => seen,
     }
 }
@@ -51,9 +59,9 @@ pub fn scan_in(ring: &[i32], n: usize, p: Point, edge: bool) -> Answer
 {
     let mut inside = false;
     for i in 0..n {
-        match step(ring, i, p, Some(inside)) {
-            Some(now) => inside = now,
-            None => return Ok(edge),
+        match step(ring, i, p, ControlFlow::Continue(inside)) {
+            ControlFlow::Continue(now) => inside = now,
+            ControlFlow::Break(_) => return Ok(edge),
         }
     }
     Ok(inside)

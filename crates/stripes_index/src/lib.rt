@@ -75,7 +75,7 @@ pub fn greatest_y(ring: &[i32], n: usize) -> f64
 }
 
 // How a ring's heights are cut: from its least y up, over its height, into so many stripes. That they are more than none stays a
-// clause and no fact of the type: docs/PROMISES.md names `prepare`, which takes plain arguments.
+// clause and no fact of the type: docs/PROMISES.md names `prepare`, which takes a cut of any numbers and asks for that.
 #[derive(Clone, Copy, Debug, PartialEq)]
 pub struct Cut {
     pub least: f64,

@@ -1,5 +1,5 @@
 -- The ring test of the numbers of a stripe, in one pass. Assumes nothing.
-use Rattle.std.specs.Prelude.{Some, None, unwrap_or}
+use Rattle.std.specs.declared.ops.ControlFlow.TheVariants.{Continue, Break}
 use mathlib.Core.Path.{◌≡◌, refl, sym, ap, ◌∙◌}
 use mathlib.Core.Bool.{Bool, false}
 use mathlib.Core.List.{List, []}
@@ -16,9 +16,14 @@ use Rattle.cast_test.proofs.Steps.{settled, settled_step, settled_on, settled_do
 use Rattle.stripes_find.specs.Search.{complete, damaged_at, found_in, end_in}
 use Rattle.stripes_find.proofs.Reading.{found_done, end_done, found_more, end_more, end_broken}
 
-settled_end : (ring : ℕ → Float) (p : Point) (edge : Bool) (s : Seen) → settled ring p edge s [] ≡ unwrap_or s edge
-settled_end ring p edge None = settled_on ring p edge []
-settled_end ring p edge (Some inside) = settled_done ring p edge inside
+-- the answer once every number is read
+abbrev pub ended : Seen → Bool → Bool
+ended (Break inside) edge = edge
+ended (Continue inside) edge = inside
+
+settled_end : (ring : ℕ → Float) (p : Point) (edge : Bool) (s : Seen) → settled ring p edge s [] ≡ ended s edge
+settled_end ring p edge (Break inside) = settled_on ring p edge inside []
+settled_end ring p edge (Continue inside) = settled_done ring p edge inside
 
 module _ (ring : ℕ → Float) (p : Point) (edge : Bool) (n : ℕ) (list : List ℕ) (start past : ℕ) where
   pub record Testing (s : Seen) (at : ℕ) : Type 0 where
@@ -26,7 +31,7 @@ module _ (ring : ℕ → Float) (p : Point) (edge : Bool) (n : ℕ) (list : List
         ≡ test_of ring p edge (found_in n (λ i. holds_height (side_at ring i) p.y) (slice start past list))
     pub ends : end_in n at (slice at past list) ≡ end_in n start (slice start past list)
 
-  pub testing_start : Testing (Some false) start
+  pub testing_start : Testing (Continue false) start
   testing_start = record { same = settled_none ring p edge _; ends = refl }
 
   module _ (s : Seen) (at x : ℕ) (l : Testing s at) (h : at < past) (b : past ≤ length list) (is : x ≡ get_or list at 0) where
@@ -43,7 +48,7 @@ module _ (ring : ℕ → Float) (p : Point) (edge : Bool) (n : ℕ) (list : List
     testing_broken k = sym l.ends ∙ end_broken n (λ i. holds_height (side_at ring i) p.y) list past at h b (rw (← is) k)
 
   pub testing_done : (s : Seen) (at : ℕ) → Testing s at → at ≡ past
-      → (unwrap_or s edge ≡ test_of ring p edge (found_in n (λ i. holds_height (side_at ring i) p.y) (slice start past list)))
+      → (ended s edge ≡ test_of ring p edge (found_in n (λ i. holds_height (side_at ring i) p.y) (slice start past list)))
       × (end_in n start (slice start past list) ≡ complete)
   testing_done s at l e =
       let t : ℕ → Bool = λ i. holds_height (side_at ring i) p.y in

@@ -11,6 +11,7 @@ use answers::{Answer, Refusal};
 use boxes::Point;
 use cast_test::step;
 use room::wide;
+use std::ops::ControlFlow;
 use stripes_find::StripeIndex;
 
 // The ring test of a part of the list. Damage is looked for to the part's end, also behind an "on". `stripes_find` goes through a
@@ -28,7 +29,7 @@ fn test_run(
     requires { (n * 2 + 2 ≤ length ring.now) × (start ≤ past) × (past ≤ length list.now) }
     ensures { result ≡ verdict (wide ring.now) p edge (run_read (wide ring.now) n list.now start past p.y) }
 {
-    let mut seen = Some(false);
+    let mut seen = ControlFlow::Continue(false);
     for at in start..past {
         let i = wide(list[at]);
         if n <= i {
@@ -36,7 +37,10 @@ fn test_run(
         }
         seen = step(ring, i, p, seen);
     }
-    Ok(seen.unwrap_or(edge))
+    match seen {
+        ControlFlow::Continue(inside) => Ok(inside),
+        ControlFlow::Break(_) => Ok(edge),
+    }
 }
 
 // The ring test by a whole index. For callers that have checked the ring and the point.

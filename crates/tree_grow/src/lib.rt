@@ -83,7 +83,9 @@ fn share_of(shares: Shares, q: usize) -> usize
 
 // Where a tree grows: its ring, how many levels stand below the node, and the node's box.
 // No ghost field bounds `left`: it may be all levels in `grow` and one less in `grow_split` and `grow_from`, so two clauses
-// of three would stay, and with a ghost field `..self` cannot be written. The rest speaks of the run, lent as &mut.
+// of three would stay, and with a ghost field `..*self` cannot be written. The rest speaks of the run, lent as &mut.
+// A spot, and the shares of its segments, go over by reference: each level of the recursion holds six frames, and their copies
+// took a third of the stack that a build needs.
 #[derive(Clone, Copy)]
 struct Spot<'a> {
     ring: &'a [i32],
@@ -94,9 +96,9 @@ struct Spot<'a> {
 impl<'a> Spot<'a> {
     // The tree of what arrives, with so many levels below its root.
     #[cycle(grow_grow_from_grow_split)]
-    fn grow(self, run: &mut [u32], rest: &mut [u32]) -> Option<(usize, usize)>
-        requires { (self.left ≤ max_depth) × (length run.old ≤ 4096) × All (Readable (length self.ring.now)) run.old }
-        ensures { Grew (crop_of (sprout (wide self.entry.ring.now) self.entry.left self.entry.bounds run.old)) rest.old result run.new rest.new }
+    fn grow(&self, run: &mut [u32], rest: &mut [u32]) -> Option<(usize, usize)>
+        requires { (self.now.left ≤ max_depth) × (length run.old ≤ 4096) × All (Readable (length self.now.ring.now)) run.old }
+        ensures { Grew (crop_of (sprout (wide self.now.ring.now) self.now.left self.now.bounds run.old)) rest.old result run.new rest.new }
     {
         if run.is_empty() {
             return Some((0, 0));
@@ -112,21 +114,21 @@ impl<'a> Spot<'a> {
         }
         let below = Spot {
             left: self.left - 1,
-            ..self
+            ..*self
         };
         below.grow_split(run, rest)
     }
 
     // A node that splits, with so many levels below its quadrants. Its record is written last, since it has the size.
     #[cycle(grow_grow_from_grow_split)]
-    fn grow_split(self, run: &mut [u32], rest: &mut [u32]) -> Option<(usize, usize)>
-        requires { (self.left < max_depth) × (max_items < length run.old) × (length run.old ≤ 4096) × All (Readable (length self.ring.now)) run.old × (6 ≤ length rest.old) }
-        ensures { Grew (crop_of (grown (wide self.entry.ring.now) (self.entry.left + 1) self.entry.bounds run.old)) rest.old result run.new rest.new }
+    fn grow_split(&self, run: &mut [u32], rest: &mut [u32]) -> Option<(usize, usize)>
+        requires { (self.now.left < max_depth) × (max_items < length run.old) × (length run.old ≤ 4096) × All (Readable (length self.now.ring.now)) run.old × (6 ≤ length rest.old) }
+        ensures { Grew (crop_of (grown (wide self.now.ring.now) (self.now.left + 1) self.now.bounds run.old)) rest.old result run.new rest.new }
     {
         let shares = share_out(self.ring, self.bounds, run);
         let own = shares.own;
         let bytes = own_size(&run[..own]) + 1;
-        let (nodes, size) = self.grow_from(shares, 0, &mut run[own..], &mut rest[6..])?;
+        let (nodes, size) = self.grow_from(&shares, 0, &mut run[own..], &mut rest[6..])?;
         write_record(rest, shares, bytes + size);
         Some((nodes + 1, bytes + size))
     }
@@ -134,22 +136,22 @@ impl<'a> Spot<'a> {
     // The quadrants from q on, whose segments stand one behind the other.
     #[cycle(grow_grow_from_grow_split)]
     fn grow_from(
-        self,
-        shares: Shares,
+        &self,
+        shares: &Shares,
         q: usize,
         run: &mut [u32],
         rest: &mut [u32],
     ) -> Option<(usize, usize)>
-        requires { (self.left < max_depth) × (q ≤ 4) × (length run.old ≤ 4096) × All (Readable (length self.ring.now)) run.old × (shares_from shares q ≡ length run.old) }
-        ensures { Grew (crop_from (wide self.entry.ring.now) self.entry.left self.entry.bounds shares q run.old) rest.old result run.new rest.new }
+        requires { (self.now.left < max_depth) × (q ≤ 4) × (length run.old ≤ 4096) × All (Readable (length self.now.ring.now)) run.old × (shares_from shares.now q ≡ length run.old) }
+        ensures { Grew (crop_from (wide self.now.ring.now) self.now.left self.now.bounds shares.now q run.old) rest.old result run.new rest.new }
     {
         if q == 4 {
             return Some((0, 0));
         }
-        let n = share_of(shares, q);
+        let n = share_of(*shares, q);
         let quadrant = Spot {
             bounds: quad_bounds(self.bounds, q),
-            ..self
+            ..*self
         };
         let (nodes, size) = quadrant.grow(&mut run[..n], rest)?;
         let used = nodes * 6;

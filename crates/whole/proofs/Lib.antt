@@ -5,5 +5,8 @@ pub mod Floors
 pub mod Rounds
 pub mod Width
 pub mod Within
+pub mod Double
+pub mod Ceilings
+pub mod Joined
 pub mod Samples
 pub mod Unique

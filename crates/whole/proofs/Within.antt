@@ -1,8 +1,9 @@
 -- The floor held to 0 .. top. Assumes nothing.
-use Rattle.std.proofs.Common.{◌≡◌, ℕ, zero, suc, ◌-◌, ◌*◌, ◌/◌, ◌^◌, ◌<◌, ◌≤◌, min, Bool, true, false, cond, T, ltb, ℤ, pos, negsuc, neg_ℤ, nat_abs, sym, refl, ap, ◌∙◌, subst, zero-le, arith, le→leb, leb→le}
+use Rattle.std.proofs.Common.{◌≡◌, ℕ, zero, suc, ◌-◌, ◌*◌, ◌/◌, ◌^◌, ◌<◌, ◌≤◌, min, Bool, true, false, cond, T, ltb, ℤ, pos, negsuc, neg_ℤ, nat_abs, sym, refl, ap, ◌∙◌, subst, zero-le, arith, lit<, le→leb, leb→le}
 use native.Mathlib.Nat.{zero-div}
 use lib.Signed.{le_z, le_z_yes, yes_non_neg, pos-nat_abs}
 use lib.Ieee.{Float, nan, inf, fin, up, down, le, to_unsigned}
+use lib.Ieee.Casts.{to_unsigned-lt}
 use Rattle.whole.specs.Held.{signed, clamp, Held, held, first, last}
 use Rattle.whole.specs.Floor.{Floor, floor_of, FloorWithin, floor_within, floor_to}
 use Rattle.whole.proofs.Held.{held_meets, held_only, clamp_low}
@@ -49,6 +50,20 @@ within_is top (fin false m e) t = ap nat_abs (clamp_top top (m * up e / down e))
   where
     lower : (k : ℕ) → min k top ≡ min (min k (2 ^ 64 - 1)) top
     lower k = omega arith
+
+-- the part that `floor_within` gives where it holds nothing back
+abbrev pub MAX : ℕ
+MAX = 0xffff_ffff_ffff_ffff
+
+pub whole_part : (x : Float) (k : ℕ) → k ≡ floor_within MAX x → k ≡ to_unsigned 64 x
+whole_part x k e = e ∙ within_is MAX x (lit< tt) ∙ below (to_unsigned 64 x) (to_unsigned-lt 64 x)
+  where
+    below : (u : ℕ) → u < 2 ^ 64 → min u MAX ≡ u
+    below u h = omega arith
+
+-- 0
+abbrev pub nought : Float
+nought = fin false 0 (pos 0)
 
 -- ---- what `floor_within` promises
 pub promised : (x : Float) (top r : ℕ) → top < 2 ^ 64 → r ≡ min (to_unsigned 64 x) top → FloorWithin top x r × (r ≡ floor_within top x)

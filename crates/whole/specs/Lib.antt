@@ -1,3 +1,4 @@
 pub mod Held
 pub mod Floor
 pub mod Round
+pub mod Inner

@@ -1,7 +1,7 @@
--- Laws of fields: which bytes make them up, what the library reads in them, and that a number's bytes give the number back. Assumes nothing.
-use Prim.Native.Nat.{ℕ, zero, suc, ◌+◌, ◌/◌, ◌^◌, ◌≤◌, ◌<◌}
-use mathlib.Core.Path.{◌≡◌, refl, ap, ap₂, ◌∙◌}
-use mathlib.Core.List.{List, [], ◌∷◌, ◌++◌, reverse-reverse}
+-- Laws of fields: which bytes make them up, halves of a field of eight, what the library reads in them, and that a number's bytes give the number back. Assumes nothing.
+use Prim.Native.Nat.{ℕ, zero, suc, ◌+◌, ◌*◌, ◌/◌, ◌^◌, ◌≤◌, ◌<◌}
+use mathlib.Core.Path.{◌≡◌, refl, sym, ap, ap₂, ◌∙◌}
+use mathlib.Core.List.{List, [], ◌∷◌, ◌++◌, reverse, reverse-reverse}
 use native.Mathlib.Omega.{arith}
 use native.Mathlib.Nat.{pow-suc}
 use lib.ListN.{length, get_or, take, drop, length-reverse}
@@ -18,7 +18,7 @@ drop_one l at next e h =
     let s : suc at ≡ next = omega arith in drop-cons l at 0 h ∙ ap (λ (n : ℕ). get_or l at 0 ∷ drop n l) s
 
 -- the four bytes at a place
-four : (l : List ℕ) (at : ℕ) → at + 4 ≤ length l
+pub four : (l : List ℕ) (at : ℕ) → at + 4 ≤ length l
     → take 4 (drop at l) ≡ get_or l at 0 ∷ get_or l (at + 1) 0 ∷ get_or l (at + 2) 0 ∷ get_or l (at + 3) 0 ∷ []
 four l at h =
     rw (
@@ -69,6 +69,39 @@ module _ (l : List ℕ) (at : ℕ) where
   pub eight_big : at + 8 ≤ length l → from_be_bytes w64 (take 8 (drop at l)) ≡ field_of Big 8 l at
   unfolding field_of number_in
   eight_big h = rw (eight l at h) (big_eight _ _ _ _ _ _ _ _)
+
+-- A field of four is its four bytes, the last ones weighing most or least.
+pub little_of_four : (l : List ℕ) (at : ℕ) → at + 4 ≤ length l
+    → field_of Little 4 l at ≡ little_end (get_or l at 0 ∷ get_or l (at + 1) 0 ∷ get_or l (at + 2) 0 ∷ get_or l (at + 3) 0 ∷ [])
+unfolding field_of number_in
+little_of_four l at h = ap little_end (four l at h)
+
+pub big_of_four : (l : List ℕ) (at : ℕ) → at + 4 ≤ length l
+    → field_of Big 4 l at ≡ little_end (get_or l (at + 3) 0 ∷ get_or l (at + 2) 0 ∷ get_or l (at + 1) 0 ∷ get_or l at 0 ∷ [])
+unfolding field_of number_in
+big_of_four l at h = ap (λ (bs : List ℕ). little_end (reverse bs)) (four l at h)
+
+-- A field of eight bytes is two of four.
+join_little : (a b c d e f g h : ℕ)
+    → little_end (a ∷ b ∷ c ∷ d ∷ e ∷ f ∷ g ∷ h ∷ []) ≡ little_end (a ∷ b ∷ c ∷ d ∷ []) + 4294967296 * little_end (e ∷ f ∷ g ∷ h ∷ [])
+unfolding little_end
+join_little a b c d e f g h = omega arith
+
+pub halves_little : (l : List ℕ) (at : ℕ) → at + 8 ≤ length l
+    → field_of Little 8 l at ≡ field_of Little 4 l at + 4294967296 * field_of Little 4 l (at + 4)
+unfolding field_of number_in
+halves_little l at h =
+    ap little_end (eight l at h)
+    ∙ join_little _ _ _ _ _ _ _ _
+    ∙ sym (ap₂ (λ (x y : List ℕ). little_end x + 4294967296 * little_end y) (four l at (omega arith)) (four l (at + 4) (omega arith)))
+
+pub halves_big : (l : List ℕ) (at : ℕ) → at + 8 ≤ length l
+    → field_of Big 8 l at ≡ field_of Big 4 l (at + 4) + 4294967296 * field_of Big 4 l at
+unfolding field_of number_in
+halves_big l at h =
+    ap (λ (bs : List ℕ). little_end (reverse bs)) (eight l at h)
+    ∙ join_little _ _ _ _ _ _ _ _
+    ∙ sym (ap₂ (λ (x y : List ℕ). little_end (reverse y) + 4294967296 * little_end (reverse x)) (four l at (omega arith)) (four l (at + 4) (omega arith)))
 
 -- the one NaN
 nan_only : (x : Float) → is_nan x ≡ true → x ≡ nan

@@ -1,7 +1,7 @@
 -- `cast_test::scan_in` meets its contract. The invariant: what is seen and the segments to come make the answer, and nothing was "on". Assumes nothing.
 use Prim.Native.Nat.{◌+◌}
 use mathlib.Core.Path.{sym, ap}
-use Rattle.std.specs.Prelude.{Some}
+use Rattle.std.specs.declared.ops.ControlFlow.TheVariants.{Continue}
 use Rattle.answers.specs.Answers.{said}
 use Rattle.cast_test.proofs.Scan.{scanning_start, scanning_more, scanning_on, scanning_done}
 use Rattle.cast_test.proofs.scan_in.Goals as goal
@@ -12,12 +12,12 @@ loop-i-init c = scanning_start _ _ _ _
 pub loop-i-preserved : goal.loop-i-preserved
 loop-i-preserved c =
     let l = c.loop-i in
-    rw (c.in-Some.ensures) (scanning_more _ c.args.n c.args.p c.args.edge (Some l.inside) l.i c.loop-i-test.true l.invariant)
+    rw (c.in-Continue.ensures) (scanning_more _ c.args.n c.args.p c.args.edge (Continue l.inside) l.i c.loop-i-test.true l.invariant)
 
-pub returns-in-None : goal.returns-in-None
-returns-in-None c =
+pub returns-in-Break : goal.returns-in-Break
+returns-in-Break c =
     let l = c.loop-i in
-    ap said (scanning_on _ _ _ _ (l.i + 1) (rw (sym c.in-None.ensures) at (scanning_more _ c.args.n c.args.p c.args.edge (Some l.inside) l.i c.loop-i-test.true l.invariant)))
+    ap said (scanning_on _ _ _ _ _ (l.i + 1) (rw (sym c.in-Break.ensures) at (scanning_more _ c.args.n c.args.p c.args.edge (Continue l.inside) l.i c.loop-i-test.true l.invariant)))
 
 pub returns : goal.returns
 returns c = ap said (scanning_done _ _ _ _ c.loop-i.inside c.loop-i.i c.loop-i-test.false c.loop-i.invariant)

@@ -1,15 +1,14 @@
--- `whole::floor` meets its contract: it is std's, held by std's cast. Assumes nothing.
-use mathlib.Core.Path.{sym, ap, subst, ◌∙◌}
-use lib.Dec.{T}
-use lib.Ieee.{to_signed}
-use Rattle.whole.specs.Floor.{FloorTo}
-use Rattle.whole.proofs.Floors.{floor_to_meets}
-use Rattle.whole.proofs.Rounded.{floor_std, read_back}
+-- `whole::floor` meets its contract. Assumes nothing.
+use lib.Ieee.{of_bits}
+use Rattle.whole.proofs.Joined.{floor_minus, floor_plus}
 use Rattle.whole.proofs.floor.Goals as goal
 
+pub returns-then-x : goal.returns-then-x
+unfolding of_bits
+returns-then-x c =
+    let both = floor_minus _ _ _ c.if-x.true c.ceiling.ensures c.with_sign.ensures in record { meets = both.0; computed = both.1 }
+
 pub returns : goal.returns
+unfolding of_bits
 returns c =
-    let x = c.args.x in
-    let held = c.saturating_f64_to_i64.ensures in
-    let e = read_back _ _ held ∙ held ∙ ap (to_signed 63) c.floor.ensures ∙ floor_std x (subst T (sym c.well_formed.0.1) tt) in
-    record { meets = subst (FloorTo 63 x) (sym e) (floor_to_meets 63 x); computed = e }
+    let both = floor_plus _ _ _ c.if-x.false c.floor_within.ensures.computed c.with_sign-2.ensures in record { meets = both.0; computed = both.1 }

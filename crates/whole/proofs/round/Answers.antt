@@ -1,15 +1,9 @@
--- `whole::round` meets its contract: it is std's, held by std's cast. Assumes nothing.
-use mathlib.Core.Path.{sym, ap, subst, ◌∙◌}
-use lib.Dec.{T}
-use lib.Ieee.{to_signed}
-use Rattle.whole.specs.Round.{RoundTo}
-use Rattle.whole.proofs.Rounds.{round_to_meets}
-use Rattle.whole.proofs.Rounded.{round_std, read_back}
+-- `whole::round` meets its contract. Assumes nothing.
+use lib.Ieee.{of_bits}
+use Rattle.whole.proofs.Joined.{rounded}
 use Rattle.whole.proofs.round.Goals as goal
 
 pub returns : goal.returns
+unfolding of_bits
 returns c =
-    let x = c.args.x in
-    let held = c.saturating_f64_to_i64.ensures in
-    let e = read_back _ _ held ∙ held ∙ ap (to_signed 63) c.round.ensures ∙ round_std x (subst T (sym c.well_formed.0.1) tt) in
-    record { meets = subst (RoundTo 63 x) (sym e) (round_to_meets 63 x); computed = e }
+    let both = rounded _ _ _ _ c.abs.ensures c.near.ensures c.with_sign.ensures in record { meets = both.0; computed = both.1 }

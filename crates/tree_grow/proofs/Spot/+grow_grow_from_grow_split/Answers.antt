@@ -34,8 +34,8 @@ grow-returns t c = same_tree (sprout_some _ _ _ _ (some_arrive t (goal.at.grow-r
 -- what is known once the quadrant's share is
 next :
     (t : ℕ) (c : grow_from-After-share_of-n t)
-    → Next (length c.args.self.ring.now) (wide c.args.self.ring.now) c.args.self.left c.args.self.bounds
-    c.args.shares c.args.q c.args.run.now
+    → Next (length c.args.self.now.ring.now) (wide c.args.self.now.ring.now) c.args.self.now.left c.args.self.now.bounds
+    c.args.shares.now c.args.q c.args.run.now
     c.share_of-n.result
 next t c =
     record { deep = c.requires.0; last = c.requires.1; more = c.if-q-eq4.false; few = c.requires.2; readable = c.requires.3; shares = c.requires.4; share = c.share_of-n.ensures }
@@ -43,10 +43,10 @@ next t c =
 -- and once the quadrant stands
 front :
     (t : ℕ) (c : grow_from-In_ok-nodes t)
-    → Front (length c.args.self.ring.now) (wide c.args.self.ring.now)
-    c.args.self.left
-    c.args.self.bounds
-    c.args.shares
+    → Front (length c.args.self.now.ring.now) (wide c.args.self.now.ring.now)
+    c.args.self.now.left
+    c.args.self.now.bounds
+    c.args.shares.now
     c.args.q
     c.args.run.now
     c.share_of-n.result
@@ -105,7 +105,7 @@ grow_from-returns t c = from_grew (front t (goal.at.grow_from-returns t c).In_ok
 -- what is known once the segments are shared out
 splits :
     (t : ℕ) (c : grow_split-After-share_out-shares t)
-    → Splits (length c.args.self.ring.now) (wide c.args.self.ring.now) c.args.self.left c.args.self.bounds
+    → Splits (length c.args.self.now.ring.now) (wide c.args.self.now.ring.now) c.args.self.now.left c.args.self.now.bounds
     c.args.run.now c.share_out-shares.result c.share_out-shares.new.run c.args.rest.now
 splits t c =
     record { shared = c.share_out-shares.ensures; deep = c.requires.0; many = c.requires.1; few = c.requires.2; readable = c.requires.3; room = c.requires.4 }
